@@ -1,0 +1,8 @@
+//! The log that a parser leaves: token columns in, records out.
+
+pub mod event;
+pub mod input;
+pub mod item;
+pub mod parser;
+pub mod refusal;
+pub mod syntax_kind;
