@@ -1,0 +1,2 @@
+-- what a sink takes
+pub mod Sink

@@ -1,0 +1,3 @@
+//! Where a log is told to: the items, the sinks that take them, and the walk that tells them.
+
+pub mod sink;

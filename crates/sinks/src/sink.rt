@@ -1,0 +1,27 @@
+ghost use Prim.Native.Nat.{ℕ, _<_};
+ghost use mathlib.Core.List.{List};
+ghost use denote.Ref.{now};
+ghost use Rattle.log.specs.declared.item.Item.{Item};
+ghost use Rattle.sinks.specs.Sink.{heard, Takes};
+use log::item::Item;
+
+/// A sink has no room for an item.
+#[derive(Clone, Copy, PartialEq, Eq, Debug)]
+pub struct Full;
+
+/// Whoever is told the items of a log, by what it was told and how much more it can take.
+pub trait Sink {
+    /// what it was told, in order
+    ghost items: { Self → List Item };
+
+    ghost room: { Self → ℕ };
+
+    /// how much room an item takes
+    ghost size: { Item → ℕ };
+
+    law sized: { (x : Item) → 0 < size x };
+
+    /// Takes one item more, or keeps everything as it is, where the item is larger than the room.
+    fn put(&mut self, item: Item) -> Result<(), Full>
+        ensures { λ r. ⌜ Takes size item (heard (items (now (self .entry))) (room (now (self .entry)))) (heard (items (now (self .exit))) (room (now (self .exit)))) r ⌝ };
+}
