@@ -59,7 +59,7 @@ faultless-one (Error n k) h = absurd (h n k refl)
 
 pub still : (s : State) → Grown s s [] 0
 unfolding faultless
-still s = record { by = sym (append-nil _); place = sym (add-zero _); clean = and-true (s .clean); same = refl }
+still s = record { by = sym (append-nil _); place = sym (add-zero _); clean = and-true (s .clean); same = refl; long = refl }
 
 pub grown-then : {s t u : State} {a b : List Record} {v w : ℕ} → Grown s t a v → Grown t u b w → Grown s u (a ++ b) (v + w)
 grown-then {s} {a = a} {b} {v} {w} g h = record {
@@ -68,6 +68,7 @@ grown-then {s} {a = a} {b} {v} {w} g h = record {
   clean = h .clean ∙ ap (λ (x : Bool). x && faultless b) (g .clean) ∙ and-assoc (s .clean) (faultless a) (faultless b)
       ∙ ap (λ (x : Bool). s .clean && x) (sym (faultless-append a b));
   same = h .same ∙ g .same;
+  long = h .long ∙ g .long;
 }
 
 -- the same by other names
@@ -100,13 +101,14 @@ nay m e h = rw e h
 
 -- the place has moved on over what a token spells
 pub taken : {k w : ℕ} {s t u : State} {x : Unit {0}} → spells (s .env) (s .place) k w ≡ true → Pushes (Token k w) s t (Ok x)
-    → u .recs ≡ t .recs → u .place ≡ t .place + w → u .clean ≡ t .clean → u .env ≡ t .env → Does (take k w) s u (Ok x)
+    → u .recs ≡ t .recs → u .place ≡ t .place + w → u .clean ≡ t .clean → u .env ≡ t .env → u .long ≡ t .long → Does (take k w) s u (Ok x)
 unfolding run flats flat wides wide
-taken {k} {w} {s} sp (pushed lt g) rs p c e = did (cons (token k w) nil) (rw sp (due-ok _ _ _ _ lt)) (record {
+taken {k} {w} {s} sp (pushed lt g) rs p c e l = did (cons (token k w) nil) (rw sp (due-ok _ _ _ _ lt)) (record {
   by = rs ∙ g .by;
   place = p ∙ ap (λ (n : ℕ). n + w) (g .place) ∙ omega arith;
   clean = c ∙ g .clean;
   same = e ∙ g .same;
+  long = l ∙ g .long;
 })
 
 pub not-taken : {k w : ℕ} {s t : State} {e : Refusal} → spells (s .env) (s .place) k w ≡ true → Pushes (Token k w) s t (Err e)

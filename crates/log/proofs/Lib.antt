@@ -17,3 +17,5 @@ pub mod Due
 pub mod Slots
 -- the kit: how what one call does joins with what the next one does
 pub mod Kit
+-- a whole call
+pub mod Performing

@@ -5,6 +5,8 @@ pub mod Refusals
 pub mod Parts
 -- the trees that a log stands for, and its records
 pub mod Forest
+-- what always holds of a log
+pub mod Sound
 -- the steps of a grammar, and what they come to
 pub mod Program
 pub mod Steps

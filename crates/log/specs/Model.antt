@@ -1,4 +1,4 @@
--- What a call does to a parser, seen as its records, its place, whether it is clean, and its tokens.
+-- What a call does to a log.
 use mathlib.Core.Path.{_≡_}
 use mathlib.Core.List.{List, [], _∷_, _++_}
 use mathlib.Core.Bool.{Bool, true, false, _&&_}
@@ -12,8 +12,9 @@ use Rattle.log.specs.declared.event.Record.the-variants.{Start, Finish, Token,
 use Rattle.log.specs.declared.input.Input.{Input}
 use Rattle.log.specs.declared.refusal.Refusal.{Refusal}
 use Rattle.log.specs.declared.parser.Parser.{Parser}
-use Rattle.log.specs.declared.parser.records.Taken.{Taken}
-use Rattle.log.specs.declared.parser.records.Checkpoint.{Checkpoint}
+use Rattle.log.specs.declared.records.Log.{Log}
+use Rattle.log.specs.declared.records.Taken.{Taken}
+use Rattle.log.specs.declared.records.Checkpoint.{Checkpoint}
 use Rattle.log.specs.Refusals.{log-full}
 use Rattle.log.specs.Forest.{Forest, flats, wides, blank}
 use Rattle.log.specs.Program.{Env, Prog, Out, run}
@@ -23,18 +24,20 @@ use Rattle.log.specs.Program.Out.{ok, no}
 abbrev pub env-of : Input → ℕ → Env
 env-of i n = record { kinds = i .kinds .now; contextual = i .contextual .now; joint = i .joint .now; editions = i .editions .now; room = n }
 
-abbrev pub env : Parser → Env
-env p = env-of (p .input) (p .room)
+abbrev pub env : Log → Env
+env l = env-of (l .input) (l .room)
 
--- All that the definitions see of a parser. What lies past its count is not seen.
+-- All that the definitions see of a log. What lies past its count is not seen.
 pub record State : Type 0 where
   pub recs : List Record
   pub place : ℕ
   pub clean : Bool
   pub env : Env
+  -- how many records there are in all, blank ones too
+  pub long : ℕ
 
-abbrev pub of : Parser → State
-of p = record { recs = list.take (p .count) (p .log .now); place = p .place; clean = p .clean; env = env p }
+abbrev pub of : Log → State
+of l = record { recs = list.take (l .count) (l .records .now); place = l .place; clean = l .clean; env = env l; long = length (l .records .now) }
 
 -- there is no error among these records
 unfoldable pub faultless : List Record → Bool
@@ -50,6 +53,7 @@ pub record Grown (s t : State) (rs : List Record) (w : ℕ) : Type 0 where
   pub place : t .place ≡ s .place + w
   pub clean : t .clean ≡ (s .clean && faultless rs)
   pub same : t .env ≡ s .env
+  pub long : t .long ≡ s .long
 
 abbrev pub from : {A : Type 0} → Prog A → State → Out A
 from m s = run m (s .env) (length (s .recs)) (s .place)
@@ -61,7 +65,7 @@ pub data Does {A : Type 0} (m : Prog A) (s t : State) : Result A Refusal → Typ
 
 -- The same of parsers: a call that meets a program.
 abbrev pub Meets : {A : Type 0} → Prog A → Parser → Parser → Result A Refusal → Type 0
-Meets m p q r = Does m (of p) (of q) r
+Meets m p q r = Does m (of (p .log)) (of (q .log)) r
 
 -- the log is full
 pub record Full (s t : State) (e : Refusal) : Type 0 where
@@ -83,44 +87,44 @@ abbrev pub filled : List Record → ℕ → List Record
 filled rs n = rs ++ replicate (n - length rs) blank
 
 -- These records and this place, with the tokens, the room and the length of the log as before.
-pub record Holds (p q : Parser) (rs : List Record) (i : ℕ) : Type 0 where
-  pub log : q .log .now ≡ filled rs (length (p .log .now))
-  pub count : q .count ≡ length rs
-  pub place : q .place ≡ i
-  pub same : env q ≡ env p
+pub record Holds (l m : Log) (rs : List Record) (i : ℕ) : Type 0 where
+  pub log : m .records .now ≡ filled rs (length (l .records .now))
+  pub count : m .count ≡ length rs
+  pub place : m .place ≡ i
+  pub same : env m ≡ env l
 
--- A parser at the first of these tokens, with a log of so many records, all blank.
-pub record New (input : Input) (n : ℕ) (p : Parser) : Type 0 where
-  pub log : p .log .now ≡ replicate n blank
-  pub count : p .count ≡ 0
-  pub place : p .place ≡ 0
-  pub same : env p ≡ env-of input n
+-- A log before the first of these tokens, with so many records, all blank.
+pub record New (input : Input) (n : ℕ) (l : Log) : Type 0 where
+  pub log : l .records .now ≡ replicate n blank
+  pub count : l .count ≡ 0
+  pub place : l .place ≡ 0
+  pub same : env l ≡ env-of input n
 
 -- A call begins: nothing is at fault yet, and where it began is kept.
-pub record Begins (p q : Parser) (c : Checkpoint) : Type 0 where
-  pub seen : of q ≡ record { recs = of p .recs; place = p .place; clean = true; env = env p }
-  pub whole : q .log .now ≡ p .log .now
-  pub place : c .place ≡ p .place
-  pub count : c .count ≡ p .count
+pub record Begins (l m : Log) (c : Checkpoint) : Type 0 where
+  pub seen : of m ≡ record { recs = of l .recs; place = l .place; clean = true; env = env l; long = length (l .records .now) }
+  pub whole : m .records .now ≡ l .records .now
+  pub place : c .place ≡ l .place
+  pub count : c .count ≡ l .count
 
 -- the call that began here has not gone back behind it
-pub record Since (c : Checkpoint) (p : Parser) : Type 0 where
-  pub place : c .place ≤ p .place
-  pub count : c .count ≤ p .count
+pub record Since (c : Checkpoint) (l : Log) : Type 0 where
+  pub place : c .place ≤ l .place
+  pub count : c .count ≤ l .count
 
 -- place and count are put back, and the records after that are blank again
-abbrev pub PutsBack : Checkpoint → Parser → Parser → Type 0
-PutsBack c p q = Holds p q (list.take (c .count) (p .log .now)) (c .place)
+abbrev pub PutsBack : Checkpoint → Log → Log → Type 0
+PutsBack c l m = Holds l m (list.take (c .count) (l .records .now)) (c .place)
 
 -- A call ends: accepted, its answer is read off; refused, all that it left is taken back.
-pub data Concludes (c : Checkpoint) (p q : Parser) : Result (Unit {0}) Refusal → Result Taken Refusal → Type 0 where
-  accepted : {a : Unit {0}} {t : Taken} → q ≡ p → t .tokens ≡ p .place - c .place → t .clean ≡ p .clean → Concludes c p q (Ok a) (Ok t)
-  taken-back : {e : Refusal} → PutsBack c p q → Concludes c p q (Err e) (Err e)
+pub data Concludes (c : Checkpoint) (l m : Log) : Result (Unit {0}) Refusal → Result Taken Refusal → Type 0 where
+  accepted : {a : Unit {0}} {t : Taken} → m ≡ l → t .tokens ≡ l .place - c .place → t .clean ≡ l .clean → Concludes c l m (Ok a) (Ok t)
+  taken-back : {e : Refusal} → PutsBack c l m → Concludes c l m (Err e) (Err e)
 
 -- What a whole call does: the answer, the place, the count and every record to the end of the log are those that the program comes to.
 -- Refused, all is as before.
-pub data Performs {A : Type 0} (m : Prog A) (p q : Parser) : Result Taken Refusal → Type 0 where
-  performed : {t : Taken} (f : Forest) (a : A) → from m (of p) ≡ ok f a
-      → Holds p q (of p .recs ++ flats f) (p .place + wides f)
-      → t .tokens ≡ wides f → t .clean ≡ faultless (flats f) → Performs m p q (Ok t)
-  refused : {e : Refusal} → from m (of p) ≡ no e → Holds p q (of p .recs) (p .place) → Performs m p q (Err e)
+pub data Performs {A : Type 0} (p : Prog A) (l m : Log) : Result Taken Refusal → Type 0 where
+  performed : {t : Taken} (f : Forest) (a : A) → from p (of l) ≡ ok f a
+      → Holds l m (of l .recs ++ flats f) (l .place + wides f)
+      → t .tokens ≡ wides f → t .clean ≡ faultless (flats f) → Performs p l m (Ok t)
+  refused : {e : Refusal} → from p (of l) ≡ no e → Holds l m (of l .recs) (l .place) → Performs p l m (Err e)

@@ -4,5 +4,6 @@ pub mod event;
 pub mod input;
 pub mod item;
 pub mod parser;
+pub mod records;
 pub mod refusal;
 pub mod syntax_kind;

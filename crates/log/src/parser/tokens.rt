@@ -14,18 +14,18 @@ use crate::syntax_kind::EOF;
 impl<'a> Parser<'a> {
     /// The kind of the next raw token: EOF at the end.
     pub fn current(&self) -> u16
-        ensures { λ r. ⌜ r ≡ kind-at (env (now (self .entry))) (now (self .entry) .place) ⌝ }
+        ensures { λ r. ⌜ r ≡ kind-at (env (now (self .entry) .log)) (now (self .entry) .log .place) ⌝ }
     {
-        self.input.kind(self.place)
+        self.log.input.kind(self.log.place)
     }
 
     /// Takes a token of this kind, which the next raw tokens are known to spell.
     fn do_bump(&mut self, kind: u16, width: u8) -> Result<(), Refusal>
-        requires { ⌜ spells (env (now self)) (now self .place) kind width ≡ true ⌝ }
+        requires { ⌜ spells (env (now self .log)) (now self .log .place) kind width ≡ true ⌝ }
         ensures { λ r. ⌜ Meets (take kind width) (now (self .entry)) (now (self .exit)) r ⌝ }
     {
         self.push(Record::Token { kind, width })?;
-        self.place += width as usize;
+        self.log.place += width as usize;
         Ok(())
     }
 

@@ -9,8 +9,8 @@ returns-then-kind-eq-EOF c = looks (yes _ (at-end (c .current-kind .ensures) (c 
 
 pub do-bump-requires : need.do-bump-requires
 do-bump-requires c κs =
-    let p = c .args .self .now in
-    spells-raw (env p) (p .place) _ (λ e. c .if-kind-eq-EOF .left (c .current-kind .ensures ∙ e)) (sym (c .current-kind .ensures))
+    let l = c .args .self .now .log in
+    spells-raw (env l) (l .place) _ (λ e. c .if-kind-eq-EOF .left (c .current-kind .ensures ∙ e)) (sym (c .current-kind .ensures))
 
 pub returns : need.returns
 returns c = looks (nay _ (not-at-end (c .current-kind .ensures) (c .if-kind-eq-EOF .left)) (took (c .current-kind .ensures) refl (c .do-bump .ensures)))

@@ -4,7 +4,7 @@ use mathlib.Core.List.{[], _∷_}
 use Rattle.log.specs.declared.event.Record.{Record}
 use Rattle.log.specs.Model.{faultless}
 use Rattle.log.proofs.Kit.{and-false, and-true, faultless-one}
-use Rattle.log.proofs.parser.records.stays_clean.Needs as need
+use Rattle.log.proofs.parser.calls.stays_clean.Needs as need
 
 pub returns-in-Error : need.returns-in-Error
 unfolding faultless

@@ -1,0 +1,25 @@
+use mathlib.Core.Path.{_≡_, sym}
+use mathlib.Core.Bool.{Bool}
+use Prim.Native.Nat.{ℕ}
+use native.Mathlib.Omega.{arith}
+use lib.ListN.{length, getD}
+use Rattle.std.proofs.shelf.Tests.{lt-ltb, le-ltb}
+use Rattle.log.specs.Refusals.{wrong-edition}
+use Rattle.grammar.specs.Verdict.{no-edition}
+use Rattle.grammar.proofs.Firsts.{none-yet, none-more, refused-at, none-at}
+use Rattle.grammar.proofs.check.check_editions.Needs as need
+
+pub loop-place-holds : need.loop-place-holds
+loop-place-holds c = none-yet (λ i. no-edition (getD (c .args .editions .now) i 0))
+
+pub returns-then-edition-gt-LAST-EDITION : need.returns-then-edition-gt-LAST-EDITION
+returns-then-edition-gt-LAST-EDITION c =
+    refused-at wrong-edition (λ i. no-edition (getD (c .args .editions .now) i 0)) (c .loop-place .place) (length (c .args .editions .now)) (c .wrong-edition .ensures) (c .loop-place .inv) (lt-ltb _ _ (c .if-edition-gt-LAST-EDITION .taken)) (c .loop-place-test .taken)
+
+pub loop-place-again : need.loop-place-again
+loop-place-again c = none-more (λ i. no-edition (getD (c .args .editions .now) i 0)) (c .loop-place .place) (c .loop-place .inv) (le-ltb _ _ (c .if-edition-gt-LAST-EDITION .left))
+
+pub returns : need.returns
+returns c =
+    let end : c .loop-place .place ≡ length (c .args .editions .now) = omega (arith, c .loop-place .kept .place-end) in
+    none-at wrong-edition (λ i. no-edition (getD (c .args .editions .now) i 0)) (c .loop-place .inv) end

@@ -1,0 +1,4 @@
+//! The reading of a token column, and the calls that go through it.
+
+pub mod check;
+pub mod reading;
