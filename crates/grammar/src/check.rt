@@ -5,6 +5,8 @@ ghost use Prim.Native.Nat.{_≤_};
 ghost use lib.ListN.{length};
 ghost use Rattle.grammar.specs.Verdict.{fault, verdict, fits, no-kind, no-contextual, kinds-fault, contextual-fault, editions-fault};
 use log::input::Input;
+use log::input::MAX_TOKENS;
+use log::records::MAX_RECORDS;
 use log::refusal::Layer;
 use log::refusal::Refusal;
 use log::syntax_kind::DOLLAR;
@@ -12,12 +14,6 @@ use log::syntax_kind::EOF;
 use log::syntax_kind::IDENT;
 use log::syntax_kind::SHEBANG;
 use log::syntax_kind::TOMBSTONE;
-
-/// How many tokens a reading takes at most.
-pub const MAX_TOKENS: usize = 4096;
-
-/// How many records a log has at most.
-pub const MAX_RECORDS: usize = 65535;
 
 /// Editions are 2015, 2018, 2021 and 2024, from 0.
 const LAST_EDITION: u8 = 3;

@@ -4,6 +4,9 @@ ghost use Rattle.log.specs.Kinds.{EOF as end-of-file};
 ghost use Rattle.log.specs.Program.{joint-in};
 use super::syntax_kind::EOF;
 
+/// How many tokens a reading takes at most.
+pub const MAX_TOKENS: usize = 4096;
+
 /// The tokens, by lent columns: an entry of each for a token, and a bit of a word, token i at bit i modulo 64 of word i divided by 64.
 #[derive(Clone, Copy)]
 pub struct Input<'a> {

@@ -3,6 +3,9 @@
 use super::event::Record;
 use super::input::Input;
 
+/// How many records a log has at most.
+pub const MAX_RECORDS: usize = 65535;
+
 /// The tokens, and the lent log of what was made of them. A `Parser` is one with its invariants, and writes it.
 #[derive(Drop)]
 pub struct Log<'a> {

@@ -21,19 +21,35 @@ ghost-self c =
 
 pub loop-at-again : need.loop-at-again
 loop-at-again c =
-    let p = c .args .self .now in
-    (ap (λ (xs : List Record). set xs (c .loop-at .at) blank) (c .loop-at .inv .0)
-    ∙ blanked-more (p .log .records .now) (c .args .began .count) (c .loop-at .at) (c .loop-at .kept .at) (omega (arith, p .within, p .roomy)), c .loop-at .inv .1, c .loop-at .inv .2, c .loop-at .inv .3)
+    let p = c .args .self .now in (
+      ap (λ (xs : List Record). set xs (c .loop-at .at) blank) (c .loop-at .inv .0)
+          ∙ blanked-more (p .log .records .now) (c .args .began .count) (c .loop-at .at) (c .loop-at .kept .at) (omega (arith, p .within, p .roomy)),
+      c .loop-at .inv .1,
+      c .loop-at .inv .2,
+      c .loop-at .inv .3,
+    )
 
 pub ghost-self-2 : need.ghost-self-2
 ghost-self-2 c =
     let p = c .args .self .now in
     let q = c .loop-at .self in
     let fits : p .log .count ≤ length (p .log .records .now) = omega (arith, p .within, p .roomy) in
-    let left = put-back (p .log .records .now) (c .args .began .count) (p .log .count) (c .loop-at .inv .0) (omega (arith, c .loop-at .kept .at-end)) (c .pre .count) fits (p .blanks) in
-    (omega (arith, c .pre .count, q .within, c .loop-at .inv .3),
-    (q .roomy, (q .short, (q .few, (omega (arith, c .pre .place, p .inside, ap (λ i. length (i .kinds .now)) (c .loop-at .inv .1)),
-    (blanks-filled (p .log .records .now) (q .log .records .now) (c .args .began .count) (omega (arith, c .pre .count, fits)) left, tt))))))
+    let left = put-back (p .log .records .now) (c .args .began .count) (p .log .count) (c .loop-at .inv .0) (omega (arith, c .loop-at .kept .at-end)) (c .pre .count) fits (p .blanks) in (
+      omega (arith, c .pre .count, q .within, c .loop-at .inv .3),
+      (
+        q .roomy,
+        (
+          q .short,
+          (
+            q .few,
+            (
+              omega (arith, c .pre .place, p .inside, ap (λ i. length (i .kinds .now)) (c .loop-at .inv .1)),
+              (blanks-filled (p .log .records .now) (q .log .records .now) (c .args .began .count) (omega (arith, c .pre .count, fits)) left, tt),
+            ),
+          ),
+        ),
+      ),
+    )
 
 pub returns : need.returns
 returns c =
