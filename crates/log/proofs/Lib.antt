@@ -1,6 +1,5 @@
--- `tell (flats f) ≡ told f`; and the same rule by indices, for code
+-- `tell (flats f) ≡ told f`
 pub mod Telling
-pub mod ByIndex
 -- what is told is balanced
 pub mod Balancing
 -- which tokens are next

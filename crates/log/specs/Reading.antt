@@ -1,7 +1,7 @@
 -- A reading: its log and its place after any calls, one after another; and the laws of what its log tells.
 use mathlib.Core.Path.{_≡_}
 use mathlib.Core.List.{List, [], _∷_, _++_, map}
-use Prim.Native.Nat.{ℕ, _+_, _<_, _≤_}
+use Prim.Native.Nat.{ℕ, _+_, _≤_}
 use lib.ListN.{length}
 use Rattle.log.specs.declared.event.Record.{Record}
 use Rattle.log.specs.Forest.{flats, wides}
@@ -9,7 +9,7 @@ use Rattle.log.specs.Program.{Env, Prog, Out, run}
 use Rattle.log.specs.Program.Out.{ok, no, never}
 use Rattle.log.specs.Tell.{tell}
 use Rattle.log.specs.Balance.{Balanced}
-use Rattle.log.specs.Spelling.{Spelled, width, holding}
+use Rattle.log.specs.Spelling.{Tokens}
 
 -- what is run by one call: a program, with whatever it answers
 pub data Call : Type 1 where
@@ -36,16 +36,9 @@ unfoldable pub after : Env → List Call → Reading → Reading
 after e [] r = r
 after e (m ∷ ms) r = after e ms (called e m r)
 
--- The tokens that a reading's log tells spell the raw tokens from the first one up to its place.
-pub record Tokens-told (e : Env) (r : Reading) : Type 0 where
-  -- in order, and each as many as it says
-  pub spelled : Spelled e 0 (tell (r .log))
-  -- up to the place, which lies inside
-  pub up-to : width (tell (r .log)) ≡ r .place
-  pub inside : r .place ≤ length (e .kinds)
-  -- each raw token before the place lies in exactly one token, and each one behind it in none
-  pub once : (p : ℕ) → p < r .place → holding p (tell (r .log)) 0 ≡ 1
-  pub no-more : (p : ℕ) → r .place ≤ p → holding p (tell (r .log)) 0 ≡ 0
+-- What a reading's log tells spells the raw tokens up to its place.
+abbrev pub Tokens-told : Env → Reading → Type 0
+Tokens-told e r = Tokens e (r .place) (tell (r .log))
 
 -- The laws, for any tokens and any list of calls of any programs.
 

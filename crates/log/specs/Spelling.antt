@@ -2,7 +2,7 @@
 use mathlib.Core.Path.{_≡_}
 use mathlib.Core.List.{List, [], _∷_}
 use mathlib.Core.Bool.{true, cond, _&&_}
-use Prim.Native.Nat.{ℕ, _+_, _≤_}
+use Prim.Native.Nat.{ℕ, _+_, _≤_, _<_}
 use lib.ListN.{length}
 use lib.Dec.{leb, ltb}
 use Rattle.log.specs.Forest.{Forest, wides}
@@ -34,6 +34,17 @@ holding p (enter k ∷ is) i = holding p is i
 holding p (leave ∷ is) i = holding p is i
 holding p (token k w ∷ is) i = cond (leb i p && ltb p (i + w)) 1 0 + holding p is (i + w)
 holding p (error n k ∷ is) i = holding p is i
+
+-- The tokens among these items spell the raw tokens from the first one up to this place.
+pub record Tokens (e : Env) (place : ℕ) (items : List Item) : Type 0 where
+  -- in order, and each as many as it says
+  pub spelled : Spelled e 0 items
+  -- up to the place, which lies inside
+  pub up-to : width items ≡ place
+  pub inside : place ≤ length (e .kinds)
+  -- each raw token before the place lies in exactly one token, and each one behind it in none
+  pub once : (p : ℕ) → p < place → holding p items 0 ≡ 1
+  pub no-more : (p : ℕ) → place ≤ p → holding p items 0 ≡ 0
 
 -- What holds of a forest that a program comes to, from so many records and a place.
 pub record Fine (e : Env) (c i : ℕ) (f : Forest) : Type 0 where

@@ -1,0 +1,9 @@
+-- what records tell, by index
+pub mod ByIndex
+-- chains of forward parents
+pub mod Chains
+-- items that a sink is told, one after the other
+pub mod Taking
+-- the listing's lines, and how they are written
+pub mod Lines
+pub mod Over

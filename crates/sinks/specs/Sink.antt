@@ -10,6 +10,14 @@ use Rattle.std.specs.declared.result.Result.the-variants.{Ok, Err}
 use Rattle.log.specs.declared.item.Item.{Item}
 use Rattle.sinks.specs.declared.sink.Full.{Full}
 
+-- How much room an item takes: at least 1.
+pub record Size : Type 0 where
+  pub amount : ℕ
+  pub least : 1 ≤ amount
+
+abbrev pub amounts : (Item → Size) → Item → ℕ
+amounts size x = size x .amount
+
 -- A sink, by its meaning: what it was told so far, and the room that is left.
 pub record Heard : Type 0 where
   pub items : List Item

@@ -1,8 +1,8 @@
-ghost use Prim.Native.Nat.{ℕ, _<_};
+ghost use Prim.Native.Nat.{ℕ};
 ghost use mathlib.Core.List.{List};
 ghost use denote.Ref.{now};
 ghost use Rattle.log.specs.declared.item.Item.{Item};
-ghost use Rattle.sinks.specs.Sink.{heard, Takes};
+ghost use Rattle.sinks.specs.Sink.{Size, amounts, heard, Takes};
 use log::item::Item;
 
 /// A sink has no room for an item.
@@ -16,12 +16,10 @@ pub trait Sink {
 
     ghost room: { Self → ℕ };
 
-    /// how much room an item takes
-    ghost size: { Item → ℕ };
-
-    law sized: { (x : Item) → 0 < size x };
+    /// how much room an item takes, by the item alone: at least 1
+    ghost size: { Item → Size };
 
     /// Takes one item more, or keeps everything as it is, where the item is larger than the room.
     fn put(&mut self, item: Item) -> Result<(), Full>
-        ensures { λ r. ⌜ Takes size item (heard (items (now (self .entry))) (room (now (self .entry)))) (heard (items (now (self .exit))) (room (now (self .exit)))) r ⌝ };
+        ensures { λ r. ⌜ Takes (amounts size) item (heard (items (now (self .entry))) (room (now (self .entry)))) (heard (items (now (self .exit))) (room (now (self .exit)))) r ⌝ };
 }

@@ -2,7 +2,7 @@
 
 ghost use mathlib.Core.Path.{_≡_};
 ghost use mathlib.Core.List.{[]};
-ghost use Rattle.log.specs.Model.{New, Performs};
+ghost use Rattle.log.specs.Model.{of, Performs};
 ghost use Rattle.log.specs.Steps.{bump-any};
 ghost use Rattle.grammar.specs.Open.{Opens, Empty};
 use super::Reading;
@@ -57,6 +57,13 @@ impl<'a> Reading<'a> {
         let r = parser.conclude(began, r);
         self.log = parser.pause();
         r
+    }
+
+    /// What was recorded since it was opened.
+    pub fn records(&self) -> &[Record]
+        ensures { λ r. ⌜ now r ≡ of (now (self .entry) .log) .recs ⌝ }
+    {
+        self.log.recorded()
     }
 
     fn take_log(&mut self) -> Log<'a>

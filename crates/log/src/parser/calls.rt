@@ -31,6 +31,14 @@ impl<'a> Log<'a> {
             clean: true,
         }
     }
+
+    /// What was recorded so far.
+    pub fn recorded(&self) -> &[Record]
+        requires { ⌜ Sound (now self) ⌝ }
+        ensures { λ r. ⌜ now r ≡ of (now (self .entry)) .recs ⌝ }
+    {
+        &self.records[0..self.count]
+    }
 }
 
 fn stays_clean(clean: bool, entry: Record) -> bool

@@ -1,5 +1,5 @@
--- The rule of `tell`, for code that goes over an array of records by its indices and keeps an array of marks: what is left to tell from an
--- index on, and one step of the walk along a chain.
+-- What records tell, for code that goes over them by index and keeps marks: what is left to tell from an index on, and one step along
+-- a chain of forward parents.
 use mathlib.Core.Path.{_≡_, refl, sym, ap, ap₂, _∙_}
 use mathlib.Core.List.{List, [], _∷_, _++_, append-assoc}
 use mathlib.Core.Bool.{Bool, true, false}
@@ -10,15 +10,12 @@ use lib.ListN.{length, getD, take, drop, set, length-drop, take-append-drop, dro
 use lib.Seq.{drop-cons, drop-at, length-take-le, getD-drop, drop-drop, take-add, take-suc-set, drop-set-lt, append-snoc}
 use Rattle.std.specs.declared.option.Option.{Option}
 use Rattle.std.specs.declared.option.Option.the-variants.{Some, None}
 use Rattle.log.specs.declared.event.Record.{Record}
 use Rattle.log.specs.declared.event.Record.the-variants.{Start, Finish, Token, Error}
 use Rattle.log.specs.declared.item.Item.{Item}
 use Rattle.log.specs.declared.item.Item.the-variants.{Leave as leave, Token as told-token, Error as told-error}
-use Rattle.log.specs.Tell.{nearer, climb, use-up, enters, tell-from, joined, tell-each}
-
--- what is left to tell from the index i on
-abbrev pub left-from : List Record → List Bool → ℕ → List Item
-left-from rs us i = tell-from (drop i rs) (drop i us)
+use Rattle.sinks.specs.Walk.{each-from}
+use Rattle.log.specs.Tell.{nearer, climb, use-up, enters, tell-each}
 
 -- the marks, with the chain used that goes on from the start at index i by this forward parent
 abbrev pub marked-from : List Record → Option ℕ → ℕ → List Bool → List Bool
@@ -31,39 +28,39 @@ kinds-from rs fp i = climb (nearer fp) (drop (suc i) rs)
 -- ---- the record at index i
 
 module _ (rs : List Record) (us : List Bool) (i : ℕ) (d : Record) (h : i < length rs) (l : length us ≡ length rs) where
-  opened : (r : Record) → getD rs i d ≡ r → left-from rs us i ≡ tell-from (r ∷ drop (suc i) rs) (getD us i false ∷ drop (suc i) us)
+  opened : (r : Record) → getD rs i d ≡ r → each-from rs us i ≡ tell-each (r ∷ drop (suc i) rs) (getD us i false ∷ drop (suc i) us)
   opened r e =
-      ap₂ tell-from (drop-cons rs i d h ∙ ap (λ x. x ∷ drop (suc i) rs) e) (drop-cons us i false (omega arith))
+      ap₂ tell-each (drop-cons rs i d h ∙ ap (λ x. x ∷ drop (suc i) rs) e) (drop-cons us i false (omega arith))
 
-  pub left-finish : getD rs i d ≡ Finish → left-from rs us i ≡ leave ∷ left-from rs us (suc i)
-  unfolding tell-from joined tell-each
-  left-finish e = opened Finish e
+  pub each-finish : getD rs i d ≡ Finish → each-from rs us i ≡ (leave ∷ []) ∷ each-from rs us (suc i)
+  unfolding tell-each
+  each-finish e = opened Finish e
 
-  pub left-token : (k w : ℕ) → getD rs i d ≡ Token k w → left-from rs us i ≡ told-token k w ∷ left-from rs us (suc i)
-  unfolding tell-from joined tell-each
-  left-token k w e = opened (Token k w) e
+  pub each-token : (k w : ℕ) → getD rs i d ≡ Token k w → each-from rs us i ≡ (told-token k w ∷ []) ∷ each-from rs us (suc i)
+  unfolding tell-each
+  each-token k w e = opened (Token k w) e
 
-  pub left-error : (n k : ℕ) → getD rs i d ≡ Error n k → left-from rs us i ≡ told-error n k ∷ left-from rs us (suc i)
-  unfolding tell-from joined tell-each
-  left-error n k e = opened (Error n k) e
+  pub each-error : (n k : ℕ) → getD rs i d ≡ Error n k → each-from rs us i ≡ (told-error n k ∷ []) ∷ each-from rs us (suc i)
+  unfolding tell-each
+  each-error n k e = opened (Error n k) e
 
-  pub left-used : (k : ℕ) (fp : Option ℕ) → getD rs i d ≡ Start k fp → getD us i false ≡ true → left-from rs us i ≡ left-from rs us (suc i)
-  unfolding tell-from tell-each joined
-  left-used k fp e u = opened (Start k fp) e ∙ ap (λ v. tell-from (Start k fp ∷ drop (suc i) rs) (v ∷ drop (suc i) us)) u
+  pub each-used : (k : ℕ) (fp : Option ℕ) → getD rs i d ≡ Start k fp → getD us i false ≡ true → each-from rs us i ≡ [] ∷ each-from rs us (suc i)
+  unfolding tell-each
+  each-used k fp e u = opened (Start k fp) e ∙ ap (λ v. tell-each (Start k fp ∷ drop (suc i) rs) (v ∷ drop (suc i) us)) u
 
-  pub left-start : (k : ℕ) (fp : Option ℕ) → getD rs i d ≡ Start k fp → getD us i false ≡ false
-      → left-from rs us i ≡ enters (k ∷ kinds-from rs fp i) ++ left-from rs (marked-from rs fp i us) (suc i)
-  unfolding tell-from joined enters tell-each climb
-  left-start k fp e u =
+  pub each-start : (k : ℕ) (fp : Option ℕ) → getD rs i d ≡ Start k fp → getD us i false ≡ false
+      → each-from rs us i ≡ enters (k ∷ kinds-from rs fp i) ∷ each-from rs (marked-from rs fp i us) (suc i)
+  unfolding tell-each
+  each-start k fp e u =
       let vs : List Bool = use-up (nearer fp) (drop (suc i) rs) (drop (suc i) us) in
       let n : length (take (suc i) us) ≡ suc i = length-take-le (suc i) us (omega arith) in
-      opened (Start k fp) e ∙ ap (λ v. tell-from (Start k fp ∷ drop (suc i) rs) (v ∷ drop (suc i) us)) u
-      ∙ ap (λ ws. enters (k ∷ kinds-from rs fp i) ++ tell-from (drop (suc i) rs) ws) (sym (drop-at (take (suc i) us) vs (suc i) n))
+      opened (Start k fp) e ∙ ap (λ v. tell-each (Start k fp ∷ drop (suc i) rs) (v ∷ drop (suc i) us)) u
+      ∙ ap (λ ws. enters (k ∷ kinds-from rs fp i) ∷ tell-each (drop (suc i) rs) ws) (sym (drop-at (take (suc i) us) vs (suc i) n))
 
 -- at the end nothing is left
-pub left-none : (rs : List Record) (us : List Bool) (i : ℕ) → length rs ≤ i → left-from rs us i ≡ []
-unfolding tell-from joined tell-each
-left-none rs us i h = ap (λ xs. tell-from xs (drop i us)) (drop-of-length-le rs h)
+pub each-none : (rs : List Record) (us : List Bool) (i : ℕ) → length rs ≤ i → each-from rs us i ≡ []
+unfolding tell-each
+each-none rs us i h = ap (λ xs. tell-each xs (drop i us)) (drop-of-length-le rs h)
 
 -- ---- the walk along a chain
 
@@ -82,7 +79,7 @@ use-up-start (x ∷ rs) (u ∷ us) zero k fp d h l e = ap (λ r. use-up (Some 0)
 use-up-start (x ∷ rs) (u ∷ us) (suc n) k fp d h l e = ap (λ vs. u ∷ vs) (use-up-start rs us n k fp d (le-of-suc-le-suc h) (suc-inj l) e)
 
 -- A forward parent of n + 1 leads from index i to index j, where another start stands. The walk goes on there, with the start at j marked.
-module _ (rs : List Record) (us : List Bool) (i n j k : ℕ) (fp : Option ℕ) (d : Record) (at : j ≡ i + suc n) (h : j < length rs) (l : length us ≡ length rs) (e : getD rs j d ≡ Start k fp) where
+module _ (rs : List Record) (i n j k : ℕ) (fp : Option ℕ) (d : Record) (at : j ≡ i + suc n) (h : j < length rs) (e : getD rs j d ≡ Start k fp) where
   ahead : suc i + n ≡ j
   ahead = omega arith
 
@@ -99,8 +96,8 @@ module _ (rs : List Record) (us : List Bool) (i n j k : ℕ) (fp : Option ℕ) (
   pub kinds-step : kinds-from rs (Some (suc n)) i ≡ k ∷ kinds-from rs fp j
   kinds-step = climb-start (drop (suc i) rs) n k fp d there start-there ∙ ap (λ xs. k ∷ climb (nearer fp) xs) (behind rs)
 
-  pub marks-step : marked-from rs (Some (suc n)) i us ≡ marked-from rs fp j (set us j true)
-  marks-step =
+  pub marks-step : (us : List Bool) → length us ≡ length rs → marked-from rs (Some (suc n)) i us ≡ marked-from rs fp j (set us j true)
+  marks-step us l =
       let vs : List Bool = use-up (nearer fp) (drop (suc j) rs) (drop (suc j) us) in
       let m : length (drop (suc i) us) ≡ length (drop (suc i) rs) = simp length-drop (omega arith) in
       let left : marked-from rs (Some (suc n)) i us ≡ take (suc i) us ++ (take n (drop (suc i) us) ++ (true ∷ vs)) =
