@@ -1,20 +1,23 @@
 -- Chains of forward parents: where they lead, and which starts they use.
 use mathlib.Core.Path.{_≡_, refl, sym, ap, _∙_}
-use mathlib.Core.List.{List, [], _∷_, _++_}
-use mathlib.Core.Bool.{Bool, true, false, cond}
+use mathlib.Core.List.{List, [], _∷_, _++_, append-assoc, append-nil}
+use mathlib.Core.Bool.{Bool, true, false, cond, _&&_}
 use mathlib.Core.Logic.{_⊎_, inl, inr}
 use Prim.Native.Nat.{ℕ, zero, suc, _+_, _-_, _<_, _≤_}
-use native.Mathlib.Nat.{not-suc-le-zero, le-of-suc-le-suc, suc-inj}
+use native.Mathlib.Nat.{suc-inj}
 use native.Mathlib.Omega.{arith}
+use lib.Dec.{ltb}
 use lib.ListN.{length, getD, take, drop, set, length-drop, take-append-drop}
-use lib.Seq.{drop-cons, getD-drop}
-use Rattle.std.proofs.shelf.Lists.{getD-past}
-use Rattle.std.proofs.shelf.Tests.{both-ways, cases-lt, lt-ltb}
+use lib.Seq.{drop-cons, drop-drop, getD-drop, take-add}
+use Rattle.std.proofs.shelf.Lists.{getD-default, getD-past}
+use Rattle.std.proofs.shelf.Tests.{both-ways, cases-lt, lt-ltb, and-right, and-from}
 use Rattle.std.specs.declared.option.Option.{Option}
 use Rattle.std.specs.declared.option.Option.the-variants.{Some, None}
 use Rattle.log.specs.declared.event.Record.{Record}
 use Rattle.log.specs.declared.event.Record.the-variants.{Start, Finish, Token, Error}
-use Rattle.log.specs.Tell.{nearer, climb, use-up}
+use Rattle.log.specs.declared.item.Item.{Item}
+use Rattle.log.specs.declared.item.Item.the-variants.{Enter as enter}
+use Rattle.log.specs.Tell.{nearer, climb, use-up, enters, enter-unless-0}
 use Rattle.sinks.specs.Walk.{forward-of, is-start, kind-of, at, ahead, parent-of, chain, mark-chain}
 use Rattle.sinks.proofs.ByIndex.{marked-from, kinds-from, kinds-step, marks-step, kinds-end, marks-end}
 
@@ -126,3 +129,88 @@ module _ (rs : List Record) (i : ℕ) (h : is-start (at rs i) ≡ true) where
 
   pub last-start : None ≡ parent-of rs i → Top rs i
   last-start e = top-by (parent-of rs i) (onward rs i (forward-of (at rs i)) (start-within rs i h)) e
+
+-- ---- the code that looks for a forward parent
+
+-- a record, whatever stands for one past the end
+pub read-at : (rs : List Record) (i : ℕ) (d : Record) → i < length rs → getD rs i d ≡ at rs i
+read-at rs i d h = getD-default rs i d Finish h
+
+abbrev pub No-start : Record → Type 0
+No-start r = (k : ℕ) (fp : Option ℕ) → r ≡ Start k fp → ⊥
+
+not-start : (r : Record) → No-start r → is-start r ≡ false
+not-start (Start k fp) h = absurd (h k fp refl)
+not-start Finish h = refl
+not-start (Token k w) h = refl
+not-start (Error n k) h = refl
+
+no-forward : (r : Record) → No-start r → forward-of r ≡ None
+no-forward (Start k fp) h = absurd (h k fp refl)
+no-forward Finish h = refl
+no-forward (Token k w) h = refl
+no-forward (Error n k) h = refl
+
+module _ (rs : List Record) (i : ℕ) (d : Record) (lt : i < length rs) where
+  pub no-parent : No-start (getD rs i d) → None ≡ parent-of rs i
+  no-parent h = sym (ap (ahead rs i) (no-forward (at rs i) (λ k fp e. h k fp (read-at rs i d lt ∙ e))))
+
+  pub parent-by : {k : ℕ} {fp o : Option ℕ} → getD rs i d ≡ Start k fp → fp ≡ o → ahead rs i o ≡ parent-of rs i
+  parent-by e p = sym (ap (λ (r : Record). ahead rs i (forward-of r)) (sym (read-at rs i d lt) ∙ e) ∙ ap (ahead rs i) p)
+
+-- an offset that leads nowhere, or to no start
+pub ahead-zero : (rs : List Record) (i n : ℕ) → n ≡ 0 → None ≡ ahead rs i (Some n)
+ahead-zero rs i n e = sym (ap (λ (m : ℕ). cond (ltb 0 m && is-start (at rs (i + m))) (Some (i + m)) None) e)
+
+pub ahead-past : (rs : List Record) (i n : ℕ) → length rs ≤ i + n → None ≡ ahead rs i (Some n)
+ahead-past rs i n h = sym (ap (λ (b : Bool). cond b (Some (i + n)) None) (and-right (ltb 0 n) _ (ap is-start (getD-past rs (i + n) Finish h))))
+
+pub ahead-other : (rs : List Record) (i n : ℕ) (d : Record) → i + n < length rs → No-start (getD rs (i + n) d) → None ≡ ahead rs i (Some n)
+ahead-other rs i n d lt h =
+    sym (ap (λ (b : Bool). cond b (Some (i + n)) None) (and-right (ltb 0 n) _ (not-start (at rs (i + n)) (λ k fp e. h k fp (read-at rs (i + n) d lt ∙ e)))))
+
+pub ahead-start : (rs : List Record) (i n : ℕ) (d : Record) {k : ℕ} {fp : Option ℕ} → (n ≡ 0 → ⊥) → i + n < length rs → getD rs (i + n) d ≡ Start k fp → Some (i + n) ≡ ahead rs i (Some n)
+ahead-start rs i n d z lt e =
+    sym (ap (λ (b : Bool). cond b (Some (i + n)) None) (and-from (ltb 0 n) _ (lt-ltb 0 n (omega (arith, z))) (ap is-start (sym (read-at rs (i + n) d lt) ∙ e))))
+
+-- ---- the code that goes along a chain
+
+-- one step more
+pub along : (rs : List Record) (i j k n : ℕ) → Next rs j k → chain rs j ≡ drop n (chain rs i) → chain rs k ≡ drop (n + 1) (chain rs i)
+along rs i j k n h e = ap (drop 1) (sym (h .chained) ∙ e) ∙ drop-drop 1 n (chain rs i)
+
+-- a chain that goes on does not end here
+pub goes-on : (rs : List Record) (i j n : ℕ) → Top rs j → chain rs j ≡ drop n (chain rs i) → n + 1 < length (chain rs i) → ⊥
+goes-on rs i j n h e l = omega (arith, ap length (sym (h .chained) ∙ e), length-drop n (chain rs i))
+
+-- it begins at a start, as long as there is something left of it
+pub along-start : (rs : List Record) (i j n : ℕ) → j < length rs → chain rs j ≡ drop n (chain rs i) → n < length (chain rs i) → is-start (at rs j) ≡ true
+along-start rs i j n lt e l = chain-starts rs j lt (omega (arith, ap length e, length-drop n (chain rs i)))
+
+-- ---- the code that enters a chain
+
+pub first-start : (rs : List Record) (i : ℕ) (d : Record) {k : ℕ} {fp : Option ℕ} → i < length rs → getD rs i d ≡ Start k fp → take 1 (chain rs i) ≡ k ∷ []
+first-start rs i d lt e =
+    let s = sym (read-at rs i d lt) ∙ e in
+    ap (take 1) (chain-is rs i (ap is-start s)) ∙ ap (λ (r : Record). kind-of r ∷ []) s
+
+pub entered : (k : ℕ) (ks : List ℕ) → ks ≡ k ∷ [] → (k ≡ 0 → ⊥) → enter k ∷ [] ≡ enters ks
+unfolding enters enter-unless-0
+entered zero ks e z = absurd (z refl)
+entered (suc k) ks e z = sym (ap enters e)
+
+pub not-entered : (ks : List ℕ) {k : ℕ} → ks ≡ k ∷ [] → k ≡ 0 → [] ≡ enters ks
+unfolding enters enter-unless-0
+not-entered ks e z = sym (ap enters e ∙ ap (λ (n : ℕ). enters (n ∷ [])) z)
+
+-- what lies further along is entered first
+enters-append : (ks js : List ℕ) → enters (ks ++ js) ≡ enters js ++ enters ks
+unfolding enters
+enters-append [] js = sym (append-nil (enters js))
+enters-append (k ∷ ks) js = ap (λ (is : List Item). is ++ enter-unless-0 k) (enters-append ks js) ∙ append-assoc (enters js) (enters ks) (enter-unless-0 k)
+
+pub enters-halves : (ks : List ℕ) (m n : ℕ) → m ≤ n → enters (take (n - m) (drop m ks)) ++ enters (take m ks) ≡ enters (take n ks)
+enters-halves ks m n h = sym (enters-append (take m ks) (take (n - m) (drop m ks))) ∙ ap enters (sym (take-add m (n - m) ks) ∙ ap (λ (k : ℕ). take k ks) (omega arith))
+
+pub no-start : (rs : List Record) (i : ℕ) (d : Record) → i < length rs → No-start (getD rs i d) → is-start (at rs i) ≡ true → ⊥
+no-start rs i d lt h e = both-ways (is-start (at rs i)) (not-start (at rs i) (λ k fp q. h k fp (read-at rs i d lt ∙ q))) e

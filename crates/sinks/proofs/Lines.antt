@@ -68,9 +68,3 @@ pub listing-more : (is : List Item) (x : Item) → listing (is ++ x ∷ []) ≡ 
 unfolding listing
 listing-more [] x = append-nil (line x)
 listing-more (y ∷ is) x = ap (λ (bs : List ℕ). line y ++ bs) (listing-more is x) ∙ sym (append-assoc (line y) (listing is) (line x))
-
-pub line-some : (x : Item) → 0 < length (line x)
-line-some (Enter k) = omega arith
-line-some Leave = omega arith
-line-some (Token k w) = omega arith
-line-some (Error n k) = omega arith

@@ -5,7 +5,7 @@ ghost use mathlib.Core.Bool.{true};
 ghost use Prim.Native.Nat.{_<_, _≤_};
 ghost use lib.ListN.{length, take, drop};
 ghost use Rattle.log.specs.Model.{of};
-ghost use Rattle.log.specs.Tell.{enters};
+ghost use Rattle.log.specs.Tell.{enters, unused};
 ghost use Rattle.sinks.specs.Sink.{amounts, heard, Tells};
 ghost use Rattle.sinks.specs.Walk.{cleared, used, at as record-at, is-start, parent-of, chain, mark-chain, Tells-record, Tells-all, Walks, Walk-law};
 use crate::sink::Full;
@@ -45,7 +45,7 @@ fn clear(marks: &mut [u8], count: usize)
 /// Tells all records; no start is marked as used yet.
 fn tell<S: Sink>(records: &[Record], marks: &mut [u8], sink: &mut S) -> Result<(), Refusal>
     requires marked { ⌜ length (now records) ≤ length (now marks) ⌝ }
-    requires unused { ⌜ take (length (now records)) (now marks) ≡ take (length (now records)) (cleared (length (now records)) (now marks)) ⌝ }
+    requires fresh { ⌜ used (length (now records)) (now marks) ≡ unused (now records) ⌝ }
     ensures told { λ r. ⌜ Tells-all (amounts size) (now (records .entry)) (heard (items (now (sink .entry))) (room (now (sink .entry)))) (heard (items (now (sink .exit))) (room (now (sink .exit)))) r ⌝ }
     ensures others { λ _. ⌜ drop (length (now (records .entry))) (now (marks .exit)) ≡ drop (length (now (records .entry))) (now (marks .entry)) ⌝ }
 {
