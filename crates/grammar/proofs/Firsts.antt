@@ -1,10 +1,12 @@
 -- The first number that passes a test, as a loop finds it.
 use mathlib.Core.Path.{_≡_, refl, sym, ap, _∙_}
 use mathlib.Core.Bool.{Bool, true, false, cond}
-use Prim.Native.Nat.{ℕ, zero, suc, _+_, _-_, _<_}
+use mathlib.Core.Logic.{_⊎_, inl, inr}
+use Prim.Native.Nat.{ℕ, zero, suc, _+_, _-_, _≤_, _<_}
 use native.Mathlib.Nat.{add-zero, add-suc}
 use native.Mathlib.Numerals.{add-one}
 use native.Mathlib.Omega.{arith}
+use Rattle.std.proofs.shelf.Tests.{cases-lt}
 use Rattle.std.specs.declared.option.Option.{Option}
 use Rattle.std.specs.declared.option.Option.the-variants.{Some, None}
 use Rattle.log.specs.declared.refusal.Refusal.{Refusal}
@@ -43,3 +45,20 @@ refused-at r p i n q h e lt = ap (λ (x : Refusal). Some x) q ∙ sym (ap (at-pl
 
 pub none-at : (r : ℕ → Refusal) (p : ℕ → Bool) {i n : ℕ} → first-below p i ≡ None → i ≡ n → None ≡ at-place r (first-below p n)
 none-at r p h e = sym (ap (at-place r) (ap (first-below p) (sym e) ∙ h))
+
+-- where none was found, none passes
+none-next : (p : ℕ → Bool) (n : ℕ) (o : Option ℕ) → next p n o ≡ None → (o ≡ None) × (p n ≡ false)
+none-next p n None h = (refl, go (p n) h)
+  where
+    go : (b : Bool) → cond b (Some n) None ≡ None → b ≡ false
+    go true e = absurd (let z : _≡_ {A = ℕ} 0 1 = cc in omega arith)
+    go false e = refl
+none-next p n (Some i) h = absurd (let z : _≡_ {A = ℕ} 0 1 = cc in omega arith)
+
+pub none-below : (p : ℕ → Bool) (n i : ℕ) → first-below p n ≡ None → i < n → p i ≡ false
+none-below p zero i h lt = absurd (omega arith)
+none-below p (suc n) i h lt = go (cases-lt i n) (none-next p n (first-below p n) (sym (first-suc p n) ∙ h)) (none-below p n i)
+  where
+    go : (i < n) ⊎ (n ≤ i) → (first-below p n ≡ None) × (p n ≡ false) → (first-below p n ≡ None → i < n → p i ≡ false) → p i ≡ false
+    go (inl l) e r = r (e .0) l
+    go (inr g) e r = ap p (let q : i ≡ n = omega arith in q) ∙ e .1

@@ -90,6 +90,9 @@ Fields l = Within l × (Roomy l × (Short l × (Few l × (Inside l × (Blanks l 
 pub fields : {l : Log} → Sound l → Reached l → Fields l
 fields s r = (s .within, (s .roomy, (s .short, (s .few, (s .inside, (s .blanks, (r, tt)))))))
 
+pub sound-of : (r : declared-reading) → Sound (r .log)
+sound-of r = record { within = r .within; roomy = r .roomy; short = r .short; few = r .few; inside = r .inside; blanks = r .blanks }
+
 -- One call on a reading: its log is taken and gone on with, the call begins, does what its program comes to and is concluded, and the log is put back.
 pub performs-on : {m : Prog (Unit {0})} {l t k v u : Log} (p q : Parser) {c : Checkpoint} {r : Result (Unit {0}) Refusal} {x : Result Taken Refusal}
     → t ≡ l → p .log ≡ t → Begins (p .log) k c → Does m (of k) (of (q .log)) r → Concludes c (q .log) v r x → u ≡ v → Performs m l u x

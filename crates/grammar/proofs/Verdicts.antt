@@ -4,9 +4,10 @@ use mathlib.Core.List.{List, [], _∷_}
 use mathlib.Core.Bool.{Bool, true, false, cond, not, _&&_}
 use Prim.Native.Nat.{ℕ, _+_, _/_, _≤_, _<_}
 use native.Mathlib.Omega.{arith}
-use lib.ListN.{length}
+use lib.ListN.{length, getD}
 use lib.Dec.{eqb, leb, ltb}
 use Rattle.std.proofs.shelf.Tests.{both-ways, and-parts, lt-ltb, le-ltb, ltb-false, leb-true, eqb-true, not-from-true, not-from-false}
+use Rattle.std.proofs.shelf.Lists.{getD-default}
 use Rattle.std.specs.declared.option.Option.{Option}
 use Rattle.std.specs.declared.option.Option.the-variants.{Some, None}
 use Rattle.std.specs.declared.result.Result.{Result}
@@ -15,8 +16,10 @@ use Rattle.std.specs.Results.{ErrBy}
 use Rattle.log.specs.declared.input.Input.{Input}
 use Rattle.log.specs.declared.refusal.Refusal.{Refusal}
 use Rattle.log.specs.declared.refusal.Layer.the-variants.{Input as input-layer}
-use Rattle.log.specs.Refusals.{too-many-tokens, column-length}
-use Rattle.grammar.specs.Verdict.{fault, first-of, when, fits, kinds-fault, contextual-fault, editions-fault, verdict}
+use Rattle.log.specs.Refusals.{too-many-tokens, column-length, wrong-kind}
+use Rattle.log.specs.Kinds.{EOF}
+use Rattle.grammar.proofs.Firsts.{none-below}
+use Rattle.grammar.specs.Verdict.{fault, first-of, at-place, when, fits, no-kind, kinds-fault, contextual-fault, editions-fault, verdict}
 
 passes : (o : Option Refusal) (rs : List (Option Refusal)) → o ≡ None → first-of (o ∷ rs) ≡ first-of rs
 unfolding first-of
@@ -42,10 +45,11 @@ not-when : (b : Bool) (r : Refusal) → when b r ≡ None → b ≡ false
 not-when true r h = absurd (let z : _≡_ {A = ℕ} 0 1 = cc in omega arith)
 not-when false r h = refl
 
-module _ (i : Input) (n : ℕ) where
-  tokens : Option Refusal
-  tokens = when (ltb 4096 (length (i .kinds .now))) (too-many-tokens input-layer)
+not-at-place : (r : ℕ → Refusal) (o : Option ℕ) → at-place r o ≡ None → o ≡ None
+not-at-place r None h = refl
+not-at-place r (Some i) h = absurd (let z : _≡_ {A = ℕ} 0 1 = cc in omega arith)
 
+module _ (i : Input) (n : ℕ) where
   pub by-tokens : 4096 < length (i .kinds .now) → {e : Refusal} → e ≡ too-many-tokens input-layer → Some e ≡ verdict i n
   by-tokens h p = ap (λ (x : Refusal). Some x) p ∙ sym (stops _ _ (when-yes _ _ (lt-ltb 4096 _ h)))
 
@@ -88,6 +92,14 @@ module _ (i : Input) (n : ℕ) where
       fitting : (b : Bool) → not b ≡ false → b ≡ true
       fitting true p = refl
       fitting false p = absurd (both-ways true p refl)
+
+  -- and none of their tokens is the end
+  pub no-end : verdict i n ≡ None → (k : ℕ) → k < length (i .kinds .now) → getD (i .kinds .now) k EOF ≡ EOF → ⊥
+  no-end h k lt e =
+      let ks : List ℕ = i .kinds .now in
+      let kinds : kinds-fault ks ≡ None = unstopped _ _ (unstopped _ _ (unstopped _ _ h .1) .1) .0 in
+      let fine : no-kind (getD ks k 0) ≡ false = none-below (λ j. no-kind (getD ks j 0)) (length ks) k (not-at-place wrong-kind _ kinds) lt in
+      both-ways (no-kind (getD ks k 0)) fine (ap no-kind (getD-default ks k 0 EOF lt ∙ e))
 
 -- columns that fit are as long as each other
 pub same-length : (i : Input) (n : ℕ) → true ≡ fits i n → length (i .kinds .now) ≡ length (i .contextual .now)

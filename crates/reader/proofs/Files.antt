@@ -1,0 +1,100 @@
+-- A file that was read, opened, gone through and told.
+use mathlib.Core.Path.{_≡_, refl, sym, ap, _∙_, subst₂}
+use denote.Ref.{RefT}
+use mathlib.Core.List.{List, map, _++_}
+use mathlib.Core.Logic.{_⊎_, inl, inr}
+use Prim.Native.Nat.{ℕ, _≤_, _<_, _-_}
+use native.Mathlib.Omega.{arith}
+use lib.ListN.{length, take, drop}
+use lib.Seq.{take-at}
+use Rattle.std.specs.Iters.{counting}
+use Rattle.std.proofs.shelf.Counted.{length-map-counting}
+use Rattle.std.proofs.shelf.Tests.{cases-lt}
+use Rattle.std.specs.declared.option.Option.the-variants.{Some, None}
+use Rattle.std.specs.declared.result.Result.{Result}
+use Rattle.std.specs.declared.result.Result.the-variants.{Ok, Err}
+use Rattle.std.specs.Results.{ErrBy}
+use Rattle.log.specs.declared.event.Record.{Record}
+use Rattle.log.specs.declared.input.Input.{Input}
+use Rattle.log.specs.declared.item.Item.{Item}
+use Rattle.log.specs.declared.records.Log.{Log}
+use Rattle.log.specs.declared.refusal.Refusal.{Refusal}
+use Rattle.log.specs.Kinds.{EOF}
+use Rattle.log.specs.Program.{Env, kind-at}
+use Rattle.log.specs.Sound.{Sound}
+use Rattle.log.specs.Model.{of, env, env-of, New}
+use Rattle.log.proofs.Slots.{count-is}
+use Rattle.grammar.specs.declared.reading.Reading.{Reading}
+use Rattle.grammar.specs.declared.reading.Unopened.{Unopened}
+use Rattle.grammar.specs.Verdict.{verdict}
+use Rattle.grammar.specs.Open.{Opens}
+use Rattle.grammar.specs.Open.Opens.{opened, refused}
+use Rattle.grammar.proofs.Verdicts.{no-end}
+use Rattle.grammar.proofs.Readings.{sound-of}
+use Rattle.file.specs.TokenFile.{written, kind-of, tokens-of, into-columns}
+use Rattle.sinks.specs.Sink.{Heard, Tells}
+use Rattle.sinks.specs.Walk.{Tells-all, Walks, Lawful, Told-more, Walk-law}
+use Rattle.sinks.specs.Walk.Walks.{walked, no-marks}
+use Rattle.sinks.specs.Walk.Tells-all.{all, part}
+use Rattle.reader.specs.List.{All-taken, Takes-all, Holds-file, Lists}
+use Rattle.reader.specs.List.Takes-all.{taken, stuck}
+use Rattle.reader.specs.List.Lists.{listed, unread, unopened, full}
+
+-- the exit of a `?`, where the file was not read
+pub not-read : {bytes : List ℕ} {s : Heard} {e : Refusal} (o : Result ℕ Refusal) → length bytes ≤ 2434 → Err e ≡ o → into-columns 1024 1024 16 1024 (tokens-of bytes) ≡ o
+    → (r : Result (Unit {0}) Refusal) → ErrBy r (λ f. f ≡ e) → Lists bytes s s r
+not-read o le p q (Ok x) z = absurd z
+not-read o le p q (Err f) z = unread le (q ∙ sym p ∙ ap (λ (y : Refusal). Err y) (sym z)) refl
+
+-- the columns that were read, as far as the tokens go
+pub front : (f : ℕ → ℕ) (k n : ℕ) (xs ys : List ℕ) → k ≡ n → ys ≡ written f n xs → take (k - 0) (drop 0 ys) ≡ map f (counting 0 n)
+front f k n xs ys p e =
+    ap (λ (zs : List ℕ). take (k - 0) zs) e ∙ ap (λ (j : ℕ). take j (written f n xs)) (omega arith)
+    ∙ take-at (map f (counting 0 n)) (drop n xs) n (length-map-counting f 0 n)
+
+-- columns that were not opened
+pub not-opened : {bytes : List ℕ} {s : Heard} {n : ℕ} {e : Unopened} {l : RefT (List Record)} {r q : Reading} (i : Input) → length bytes ≤ 2434
+    → into-columns 1024 1024 16 1024 (tokens-of bytes) ≡ Ok n → Holds-file bytes n i → length (l .now) ≡ 8192 → Opens i l r q (Err e) → Lists bytes s s (Err (e .refusal))
+not-opened i le o h k (refused v m z) = unopened i le o h (ap (verdict i) (sym k) ∙ v) refl
+
+-- the exit of a `?`, where the log is full
+pub not-taken : {bytes : List ℕ} {s : Heard} {l m : Log} {e : Refusal} → Takes-all l m (Err e) → (r : Result (Unit {0}) Refusal) → ErrBy r (λ f. f ≡ e) → Lists bytes s s r
+not-taken (stuck p q) (Ok x) z = absurd z
+not-taken (stuck p q) (Err f) z = full p (inl (z ∙ q))
+
+all-of : {l m : Log} {x : Unit {0}} → Takes-all l m (Ok x) → All-taken l m
+all-of (taken h) = h
+
+-- the end of the tokens is behind the last one
+last-place : (i : Input) (k : ℕ) (p : Log) → verdict i k ≡ None → env p ≡ env-of i 8192 → kind-at (env p) (p .place) ≡ EOF → p .place ≤ length (p .input .kinds .now) → p .place ≡ length (i .kinds .now)
+last-place i k p v e z le = go (cases-lt (p .place) (length (i .kinds .now)))
+  where
+    tokens : length (p .input .kinds .now) ≡ length (i .kinds .now)
+    tokens = ap (λ (x : Env). length (x .kinds)) e
+
+    go : (p .place < length (i .kinds .now)) ⊎ (length (i .kinds .now) ≤ p .place) → p .place ≡ length (i .kinds .now)
+    go (inl lt) = absurd (no-end i k v (p .place) lt (sym (ap (λ (x : Env). kind-at x (p .place)) e) ∙ z))
+    go (inr ge) = omega (arith, tokens)
+
+-- A reading that was opened, gone through and told.
+pub all-listed : {size : Item → ℕ} {bytes : List ℕ} {s t : Heard} {n : ℕ} {x y : Unit {0}} {marks after : List ℕ} {l : RefT (List Record)} {r q : Reading} (i : Input) (p : Reading)
+    {o : Result (Unit {0}) Refusal} → length bytes ≤ 2434 → into-columns 1024 1024 16 1024 (tokens-of bytes) ≡ Ok n → Holds-file bytes n i → length (l .now) ≡ 8192 → length marks ≡ 8192
+    → Opens i l r q (Ok x) → Takes-all (q .log) (p .log) (Ok y) → Walks size (of (p .log) .recs) marks after s t o → Walk-law (p .log) s t o → Lists bytes s t o
+all-listed {size} {bytes} {s} {t} {n} {marks = marks} {after} {q = q} i p le c h k m (opened v new) d w law = go w law
+  where
+    same : env (p .log) ≡ env-of i 8192
+    same = all-of d .same ∙ new .same ∙ ap (env-of i) k
+
+    tokens : length (i .kinds .now) ≡ n
+    tokens = ap length (h .kinds) ∙ length-map-counting (kind-of bytes) 0 n
+
+    place : p .log .place ≡ n
+    place = last-place i _ (p .log) v same (all-of d .ended) (p .inside) ∙ tokens
+
+    few : length (of (p .log) .recs) ≤ 8192
+    few = omega (arith, count-is (p .log) (sound-of p), p .within, ap (λ (e : Env). e .room) same)
+
+    go : {o : Result (Unit {0}) Refusal} → Walks size (of (p .log) .recs) marks after s t o → Walk-law (p .log) s t o → Lists bytes s t o
+    go (walked g (all z) u) b = listed i le c h (subst₂ (λ (e : Env) (j : ℕ). Told-more (Lawful e j) s t) same place b)
+    go (walked g (part f z e) u) b = full _ (inr e)
+    go (no-marks g e u z) b = absurd (omega (arith, few))

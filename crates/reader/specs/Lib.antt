@@ -1,0 +1,2 @@
+-- what the program makes of a file
+pub mod List

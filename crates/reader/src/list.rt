@@ -1,0 +1,61 @@
+//! From the bytes of a token file to what a sink is told of it.
+
+ghost use Rattle.sinks.specs.Sink.{heard};
+ghost use Rattle.reader.specs.List.{Takes-all, Lists};
+use file::read_file;
+use grammar::reading::Reading;
+use log::event::Record;
+use log::input::Input;
+use log::refusal::Layer;
+use log::refusal::Refusal;
+use sinks::sink::Sink;
+use sinks::walk::walk;
+
+/// The longest file: 1,024 tokens.
+pub const MAX_BYTES: usize = 2434;
+
+const TOKENS: usize = 1024;
+
+const WORDS: usize = 16;
+
+const RECORDS: usize = 8192;
+
+/// Takes every token.
+fn take_all(reading: &mut Reading) -> Result<(), Refusal>
+    ensures { λ r. ⌜ Takes-all (now (reading .entry) .log) (now (reading .exit) .log) r ⌝ }
+{
+    loop {
+        let taken = reading.skip()?;
+        if taken.tokens == 0 {
+            return Ok(());
+        }
+    }
+}
+
+/// Tells a sink what the file holds.
+pub fn list<S: Sink>(bytes: &[u8], sink: &mut S) -> Result<(), Refusal>
+    ensures { λ r. ⌜ Lists (now (bytes .entry)) (heard (items (now (sink .entry))) (room (now (sink .entry)))) (heard (items (now (sink .exit))) (room (now (sink .exit)))) r ⌝ }
+{
+    if bytes.len() > MAX_BYTES {
+        return Err(Refusal::too_many_tokens(Layer::File));
+    }
+    let mut kinds = [0; TOKENS];
+    let mut contextual = [0; TOKENS];
+    let mut joint = [0; WORDS];
+    let mut editions = [0; TOKENS];
+    let count = read_file(bytes, &mut kinds, &mut contextual, &mut joint, &mut editions)?;
+    let input = Input {
+        kinds: &kinds[0..count],
+        contextual: &contextual[0..count],
+        joint: &joint[0..count.div_ceil(64)],
+        editions: &editions[0..count],
+    };
+    let mut records = [Record::BLANK; RECORDS];
+    let mut marks = [0; RECORDS];
+    let mut reading = Reading::new();
+    if let Err(unopened) = reading.open(input, &mut records) {
+        return Err(unopened.refusal);
+    }
+    take_all(&mut reading)?;
+    walk(&reading, &mut marks, sink)
+}
