@@ -3,7 +3,7 @@
 ghost use mathlib.Core.Path.{_≡_};
 ghost use Prim.Native.Nat.{_≤_};
 ghost use lib.ListN.{length};
-ghost use Rattle.grammar.specs.Verdict.{fault, verdict, fits, no-kind, no-contextual, kinds-fault, contextual-fault, editions-fault};
+ghost use Rattle.grammar.specs.Verdict.{fault, verdict, fits, no-kind, no-contextual, no-edition, kinds-fault, contextual-fault, editions-fault};
 use log::input::Input;
 use log::input::MAX_TOKENS;
 use log::records::MAX_RECORDS;
@@ -59,6 +59,13 @@ fn no_contextual(kind: u16, contextual: u16) -> bool
     contextual != EOF && (kind != IDENT || contextual < DOLLAR || contextual > SHEBANG)
 }
 
+/// An edition that there is not.
+fn no_edition(edition: u8) -> bool
+    ensures { λ r. ⌜ r ≡ no-edition edition ⌝ }
+{
+    edition > LAST_EDITION
+}
+
 fn check_kinds(kinds: &[u16]) -> Result<(), Refusal>
     ensures { λ r. ⌜ fault r ≡ kinds-fault (now (kinds .entry)) ⌝ }
 {
@@ -86,7 +93,7 @@ fn check_editions(editions: &[u8]) -> Result<(), Refusal>
     ensures { λ r. ⌜ fault r ≡ editions-fault (now (editions .entry)) ⌝ }
 {
     for (place, edition) in editions.iter().enumerate() {
-        if *edition > LAST_EDITION {
+        if no_edition(*edition) {
             return Err(Refusal::wrong_edition(place));
         }
     }

@@ -2,3 +2,5 @@
 
 pub mod check;
 pub mod reading;
+#[cfg(test)]
+mod tests;

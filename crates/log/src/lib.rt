@@ -7,3 +7,5 @@ pub mod parser;
 pub mod records;
 pub mod refusal;
 pub mod syntax_kind;
+#[cfg(test)]
+mod tests;

@@ -1,5 +1,6 @@
 //! The log: the tokens, the records that were made of them so far, and how far both have come.
 
+ghost use mathlib.Core.Path.{_≡_};
 use super::event::Record;
 use super::input::Input;
 
@@ -18,6 +19,15 @@ pub struct Log<'a> {
     pub(crate) place: usize,
     /// no error was recorded since the call began
     pub(crate) clean: bool,
+}
+
+impl<'a> Log<'a> {
+    /// How many raw tokens were taken.
+    pub fn place(&self) -> usize
+        ensures { λ r. ⌜ r ≡ now (self .entry) .place ⌝ }
+    {
+        self.place
+    }
 }
 
 /// What an accepted call took: how many raw tokens, and whether it left no error.

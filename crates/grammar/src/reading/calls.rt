@@ -1,7 +1,6 @@
 //! The calls on a reading.
 
 ghost use mathlib.Core.Path.{_≡_};
-ghost use mathlib.Core.List.{[]};
 ghost use Rattle.log.specs.Model.{of, Performs};
 ghost use Rattle.log.specs.Steps.{bump-any};
 ghost use Rattle.grammar.specs.Open.{Opens, Empty};
@@ -57,6 +56,13 @@ impl<'a> Reading<'a> {
         let r = parser.conclude(began, r);
         self.log = parser.pause();
         r
+    }
+
+    /// How many raw tokens were taken since it was opened.
+    pub fn place(&self) -> usize
+        ensures { λ r. ⌜ r ≡ now (self .entry) .log .place ⌝ }
+    {
+        self.log.place()
     }
 
     /// What was recorded since it was opened.

@@ -5,6 +5,7 @@ ghost use mathlib.Core.Bool.{_&&_};
 ghost use mathlib.Core.List.{[], _∷_};
 ghost use Prim.Native.Nat.{_≤_};
 ghost use lib.ListN.{length};
+ghost use lib.Dec.{ltb};
 ghost use Rattle.log.specs.Sound.{Sound};
 ghost use Rattle.log.specs.Model.{of, faultless, New, Pushes, Begins, blanked, Since, Concludes, PutsBack};
 use super::Parser;
@@ -78,14 +79,20 @@ impl<'a> Parser<'a> {
         log
     }
 
+    fn has_room(&self) -> bool
+        ensures { λ r. ⌜ ltb (now (self .entry) .log .count) (now (self .entry) .log .room) ≡ r ⌝ }
+    {
+        self.log.count < self.log.room
+    }
+
     /// One record more, where there is room for it.
     pub fn push(&mut self, entry: Record) -> Result<(), Refusal>
         ensures { λ r. ⌜ Pushes entry (of (now (self .entry) .log)) (of (now (self .exit) .log)) r ⌝ }
     {
-        let count = self.log.count;
-        if count >= self.log.room {
+        if !self.has_room() {
             return Err(Refusal::log_full(self.log.place));
         }
+        let count = self.log.count;
         let clean = stays_clean(self.log.clean, entry);
         self.log.records[count] = entry;
         self.log.count = count + 1;
