@@ -1,6 +1,6 @@
--- The laws of a reading, after any calls.
+-- What holds of a reading after any calls: it stands for a forest, so what its log tells is balanced, and spells the raw tokens.
 use mathlib.Core.Path.{_≡_, refl, sym, ap, _∙_, subst₂}
-use mathlib.Core.List.{List, [], _∷_, _++_, map}
+use mathlib.Core.List.{List, [], _∷_, _++_}
 use Prim.Native.Nat.{_+_, _≤_}
 use native.Mathlib.Nat.{zero-add}
 use native.Mathlib.Omega.{arith}
@@ -12,8 +12,8 @@ use Rattle.log.specs.Program.Out.{ok, no, never}
 use Rattle.log.specs.Told.{told}
 use Rattle.log.specs.Tell.{tell}
 use Rattle.log.specs.Balance.{Balanced}
-use Rattle.log.specs.Spelling.{width, Fine}
-use Rattle.log.specs.Reading.{Call, Reading, begun, kept, called, after, Tokens-told, Tokens-law, Balance-law, Room-law, Tokens-law-of, Balance-law-of, Room-law-of}
+use Rattle.log.specs.Spelling.{width, Tokens, Fine}
+use Rattle.log.specs.Reading.{Call, Reading, begun, kept, called, after}
 use Rattle.log.specs.Reading.Call.{call}
 use Rattle.log.proofs.Telling.{flats-append, tell-flats}
 use Rattle.log.proofs.Balancing.{told-balanced}
@@ -58,7 +58,7 @@ stands-after e (m ∷ ms) r s = stands-after e ms (called e m r) (stands-called 
 pub stands-tells : (e : Env) (r : Reading) (s : Stands e r) → tell (r .log) ≡ told (s .forest)
 stands-tells e r s = ap tell (s .records) ∙ tell-flats (s .forest) (s .fine .named)
 
-pub stands-tokens : (e : Env) (r : Reading) → Stands e r → Tokens-told e r
+pub stands-tokens : (e : Env) (r : Reading) → Stands e r → Tokens e (r .place) (tell (r .log))
 stands-tokens e r s =
     let t : tell (r .log) ≡ told (s .forest) = stands-tells e r s in
     let w : width (told (s .forest)) ≡ r .place = s .fine .measured ∙ sym (s .reach) in
@@ -73,28 +73,5 @@ stands-tokens e r s =
 pub stands-balanced : (e : Env) (r : Reading) → Stands e r → Balanced (tell (r .log))
 stands-balanced e r s = rw (stands-tells e r s) (told-balanced (s .forest))
 
-pub stands-room : (e : Env) (r : Reading) → Stands e r → length (r .log) ≤ e .room
-stands-room e r s = rw (s .records) (rw zero-add at (s .fine .fits (omega arith)))
-
--- ---- the laws
-
 pub after-stands : (e : Env) (ms : List Call) → Stands e (after e ms begun)
 after-stands e ms = stands-after e ms begun (stands-begun e)
-
-pub tokens-law : Tokens-law
-tokens-law e ms = stands-tokens e (after e ms begun) (after-stands e ms)
-
-pub balance-law : Balance-law
-balance-law e ms = stands-balanced e (after e ms begun) (after-stands e ms)
-
-pub room-law : Room-law
-room-law e ms = stands-room e (after e ms begun) (after-stands e ms)
-
-pub tokens-law-of : {C : Type 0} (prog : C → Call) → Tokens-law-of prog
-tokens-law-of prog e ms = tokens-law e (map prog ms)
-
-pub balance-law-of : {C : Type 0} (prog : C → Call) → Balance-law-of prog
-balance-law-of prog e ms = balance-law e (map prog ms)
-
-pub room-law-of : {C : Type 0} (prog : C → Call) → Room-law-of prog
-room-law-of prog e ms = room-law e (map prog ms)

@@ -16,7 +16,7 @@ pub mod Tell
 -- the laws of what is told
 pub mod Balance
 pub mod Spelling
--- any calls, one after another, and the laws for all of them
+-- any calls, one after another
 pub mod Reading
 -- what a call does to a parser: the contracts
 pub mod Model
