@@ -1,4 +1,4 @@
-//! Where a log is told to: the items, the sinks that take them, and the walk that tells them.
+//! Where a log is told to: the sinks that take its items, and the walk that tells them.
 
 pub mod listing;
 pub mod sink;
