@@ -1,6 +1,5 @@
 //! From the bytes of a token file to what a sink is told of it.
 
-ghost use Rattle.sinks.specs.Sink.{heard};
 ghost use Rattle.reader.specs.List.{Takes-all, Lists};
 use file::read_file;
 use grammar::reading::Reading;
@@ -34,7 +33,7 @@ fn take_all(reading: &mut Reading) -> Result<(), Refusal>
 
 /// Tells a sink what the file holds.
 pub fn list<S: Sink>(bytes: &[u8], sink: &mut S) -> Result<(), Refusal>
-    ensures { λ r. ⌜ Lists (now (bytes .entry)) (heard (items (now (sink .entry))) (room (now (sink .entry)))) (heard (items (now (sink .exit))) (room (now (sink .exit)))) r ⌝ }
+    ensures { λ r. ⌜ Lists (now (bytes .entry)) (heard (now (sink .entry))) (heard (now (sink .exit))) r ⌝ }
 {
     if bytes.len() > MAX_BYTES {
         return Err(Refusal::too_many_tokens(Layer::File));
@@ -43,7 +42,13 @@ pub fn list<S: Sink>(bytes: &[u8], sink: &mut S) -> Result<(), Refusal>
     let mut contextual = [0; TOKENS];
     let mut joint = [0; WORDS];
     let mut editions = [0; TOKENS];
-    let count = read_file(bytes, &mut kinds, &mut contextual, &mut joint, &mut editions)?;
+    let count = read_file(
+        bytes,
+        &mut kinds,
+        &mut contextual,
+        &mut joint,
+        &mut editions,
+    )?;
     let input = Input {
         kinds: &kinds[0..count],
         contextual: &contextual[0..count],

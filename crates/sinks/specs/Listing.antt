@@ -9,7 +9,7 @@ use Rattle.log.specs.declared.item.Item.{Item}
 use Rattle.sinks.specs.declared.sink.Full.{Full}
 use Rattle.sinks.specs.declared.listing.Listing.{Listing}
 use Rattle.log.specs.declared.item.Item.the-variants.{Enter, Leave, Token, Error}
-use Rattle.sinks.specs.Sink.{Size}
+use Rattle.sinks.specs.Sink.{Size, Heard}
 use Rattle.sinks.specs.Lines.{line, read}
 
 -- the bytes that were written
@@ -21,6 +21,9 @@ items-of s = read (text s)
 
 abbrev pub room-of : Listing → ℕ
 room-of s = length (s .buffer .now) - s .len
+
+abbrev pub heard-of : Listing → Heard
+heard-of s = record { items = items-of s; room = room-of s }
 
 -- the bytes of an item's line
 abbrev pub bytes-for : Item → ℕ

@@ -23,9 +23,6 @@ pub record Heard : Type 0 where
   pub items : List Item
   pub room : ℕ
 
-abbrev pub heard : List Item → ℕ → Heard
-heard is n = record { items = is; room = n }
-
 -- One item is appended, and the room falls by its size; or it is larger than the room, and everything is kept.
 pub data Takes (size : Item → ℕ) (x : Item) (s t : Heard) : Result (Unit {0}) Full → Type 0 where
   took : {a : Unit {0}} → size x ≤ s .room → t .items ≡ s .items ++ x ∷ [] → t .room ≡ s .room - size x → Takes size x s t (Ok a)

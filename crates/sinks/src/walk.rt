@@ -6,7 +6,7 @@ ghost use Prim.Native.Nat.{_<_, _≤_};
 ghost use lib.ListN.{length, take, drop};
 ghost use Rattle.log.specs.Model.{of};
 ghost use Rattle.log.specs.Tell.{enters, unused};
-ghost use Rattle.sinks.specs.Sink.{amounts, heard, Tells};
+ghost use Rattle.sinks.specs.Sink.{amounts, Tells};
 ghost use Rattle.sinks.specs.Walk.{cleared, used, at as record-at, is-start, parent-of, chain, mark-chain, Tells-record, Tells-all, Walks, Walk-law};
 use crate::sink::Full;
 use crate::sink::Sink;
@@ -16,10 +16,11 @@ use log::item::Item;
 use log::refusal::Refusal;
 use log::syntax_kind::TOMBSTONE;
 
-/// Tells all that was recorded, with a mark for each record to work with.
+/// Tells the sink all that was recorded. It works with a mark for each record: refused 9 where there are fewer, and nothing is told then.
+/// Refused 10 where the sink is full, at the record reached; what was told before stays told. The marks are zero in the end.
 pub fn walk<S: Sink>(reading: &Reading, marks: &mut [u8], sink: &mut S) -> Result<(), Refusal>
-    ensures told { λ r. ⌜ Walks (amounts size) (of (now (reading .entry) .log) .recs) (now (marks .entry)) (now (marks .exit)) (heard (items (now (sink .entry))) (room (now (sink .entry)))) (heard (items (now (sink .exit))) (room (now (sink .exit)))) r ⌝ }
-    ensures law { λ r. ⌜ Walk-law (now (reading .entry) .log) (heard (items (now (sink .entry))) (room (now (sink .entry)))) (heard (items (now (sink .exit))) (room (now (sink .exit)))) r ⌝ }
+    ensures told { λ r. ⌜ Walks (amounts size) (of (now (reading .entry) .log) .recs) (now (marks .entry)) (now (marks .exit)) (heard (now (sink .entry))) (heard (now (sink .exit))) r ⌝ }
+    ensures law { λ r. ⌜ Walk-law (now (reading .entry) .log) (heard (now (sink .entry))) (heard (now (sink .exit))) r ⌝ }
 {
     let records = reading.records();
     let count = records.len();
@@ -46,7 +47,7 @@ fn clear(marks: &mut [u8], count: usize)
 fn tell<S: Sink>(records: &[Record], marks: &mut [u8], sink: &mut S) -> Result<(), Refusal>
     requires marked { ⌜ length (now records) ≤ length (now marks) ⌝ }
     requires fresh { ⌜ used (length (now records)) (now marks) ≡ unused (now records) ⌝ }
-    ensures told { λ r. ⌜ Tells-all (amounts size) (now (records .entry)) (heard (items (now (sink .entry))) (room (now (sink .entry)))) (heard (items (now (sink .exit))) (room (now (sink .exit)))) r ⌝ }
+    ensures told { λ r. ⌜ Tells-all (amounts size) (now (records .entry)) (heard (now (sink .entry))) (heard (now (sink .exit))) r ⌝ }
     ensures others { λ _. ⌜ drop (length (now (records .entry))) (now (marks .exit)) ≡ drop (length (now (records .entry))) (now (marks .entry)) ⌝ }
 {
     for at in 0..records.len() {
@@ -58,13 +59,21 @@ fn tell<S: Sink>(records: &[Record], marks: &mut [u8], sink: &mut S) -> Result<(
 }
 
 /// Tells one record.
-fn tell_record<S: Sink>(records: &[Record], at: usize, marks: &mut [u8], sink: &mut S) -> Result<(), Full>
+fn tell_record<S: Sink>(
+    records: &[Record],
+    at: usize,
+    marks: &mut [u8],
+    sink: &mut S,
+) -> Result<(), Full>
     requires within { ⌜ at < length (now records) ⌝ }
     requires marked { ⌜ length (now records) ≤ length (now marks) ⌝ }
-    ensures { λ r. ⌜ Tells-record (amounts size) (now (records .entry)) at (now (marks .entry)) (now (marks .exit)) (heard (items (now (sink .entry))) (room (now (sink .entry)))) (heard (items (now (sink .exit))) (room (now (sink .exit)))) r ⌝ }
+    ensures { λ r. ⌜ Tells-record (amounts size) (now (records .entry)) at (now (marks .entry)) (now (marks .exit)) (heard (now (sink .entry))) (heard (now (sink .exit))) r ⌝ }
 {
     match records[at] {
-        Record::Start { kind: _, forward: _ } => {
+        Record::Start {
+            kind: _,
+            forward: _,
+        } => {
             if marks[at] != 0 {
                 return Ok(());
             }
@@ -93,7 +102,10 @@ fn parent(records: &[Record], at: usize) -> Option<usize>
         return None;
     }
     match records[next] {
-        Record::Start { kind: _, forward: _ } => Some(next),
+        Record::Start {
+            kind: _,
+            forward: _,
+        } => Some(next),
         _ => None,
     }
 }
@@ -119,11 +131,16 @@ fn use_chain(records: &[Record], at: usize, marks: &mut [u8]) -> usize
 
 /// Enters the first so many nodes of this chain, the last of them first. It goes by halves, so that a long chain needs neither memory
 /// nor a deep recursion.
-fn enter_chain<S: Sink>(records: &[Record], at: usize, starts: usize, sink: &mut S) -> Result<(), Full>
+fn enter_chain<S: Sink>(
+    records: &[Record],
+    at: usize,
+    starts: usize,
+    sink: &mut S,
+) -> Result<(), Full>
     requires within { ⌜ at < length (now records) ⌝ }
     requires some { ⌜ 0 < starts ⌝ }
     requires chained { ⌜ starts ≤ length (chain (now records) at) ⌝ }
-    ensures { λ r. ⌜ Tells (amounts size) (enters (take starts (chain (now (records .entry)) at))) (heard (items (now (sink .entry))) (room (now (sink .entry)))) (heard (items (now (sink .exit))) (room (now (sink .exit)))) r ⌝ }
+    ensures { λ r. ⌜ Tells (amounts size) (enters (take starts (chain (now (records .entry)) at))) (heard (now (sink .entry))) (heard (now (sink .exit))) r ⌝ }
 {
     if starts == 1 {
         return enter(records, at, sink);
@@ -154,7 +171,7 @@ fn ancestor(records: &[Record], at: usize, steps: usize) -> usize
 fn enter<S: Sink>(records: &[Record], at: usize, sink: &mut S) -> Result<(), Full>
     requires within { ⌜ at < length (now records) ⌝ }
     requires started { ⌜ 0 < length (chain (now records) at) ⌝ }
-    ensures { λ r. ⌜ Tells (amounts size) (enters (take 1 (chain (now (records .entry)) at))) (heard (items (now (sink .entry))) (room (now (sink .entry)))) (heard (items (now (sink .exit))) (room (now (sink .exit)))) r ⌝ }
+    ensures { λ r. ⌜ Tells (amounts size) (enters (take 1 (chain (now (records .entry)) at))) (heard (now (sink .entry))) (heard (now (sink .exit))) r ⌝ }
 {
     let Record::Start { kind, forward: _ } = records[at] else {
         return Ok(());

@@ -6,8 +6,8 @@ ghost use lib.ListN.{length};
 ghost use lib.Dec.{leb};
 ghost use denote.Ref.{now};
 ghost use Rattle.sinks.specs.Lines.{listing};
-ghost use Rattle.sinks.specs.Sink.{amounts, heard, Takes};
-ghost use Rattle.sinks.specs.Listing.{items-of, room-of, size-of, Writes};
+ghost use Rattle.sinks.specs.Sink.{amounts, Takes};
+ghost use Rattle.sinks.specs.Listing.{items-of, room-of, heard-of, size-of, Writes};
 use super::Listing;
 use super::line::Line;
 use crate::sink::Full;
@@ -40,15 +40,13 @@ impl<'a> Listing<'a> {
 }
 
 pub impl<'a> Sink for Listing<'a> as ListingSink {
-    ghost items = { items-of };
-
-    ghost room = { room-of };
+    ghost heard = { heard-of };
 
     ghost size = { size-of };
 
     /// The length is known before the first byte is written, so a refusal leaves every byte as it is.
     fn put(&mut self, item: Item) -> Result<(), Full>
-        ensures takes { λ r. ⌜ Takes (amounts size-of) item (heard (items-of (now (self .entry))) (room-of (now (self .entry)))) (heard (items-of (now (self .exit))) (room-of (now (self .exit)))) r ⌝ }
+        ensures takes { λ r. ⌜ Takes (amounts size-of) item (heard-of (now (self .entry))) (heard-of (now (self .exit))) r ⌝ }
         ensures writes { λ r. ⌜ Writes item (now (self .entry)) (now (self .exit)) r ⌝ }
     {
         let line = Line::of(item);
