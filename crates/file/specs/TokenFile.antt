@@ -8,6 +8,7 @@ use lib.ListN.{length, getD, drop}
 use Rattle.std.specs.Iters.{counting}
 use Rattle.std.specs.declared.result.Result.{Result}
 use Rattle.std.specs.declared.result.Result.the-variants.{Ok, Err}
+use Rattle.log.specs.Limits.{max-tokens}
 use Rattle.log.specs.Refusals.{too-many-tokens, file-short, file-long, column-short}
 use Rattle.log.specs.declared.refusal.Refusal.{Refusal}
 use Rattle.log.specs.declared.refusal.Layer.the-variants.{File}
@@ -57,7 +58,7 @@ spare-of bytes n = number-at bytes (token-at n) (8 * bytes-for n - token-at n)
 abbrev pub tokens-of : List ℕ → Result ℕ Refusal
 tokens-of bytes =
     cond (ltb (length bytes) 2) (Err file-short)
-    (cond (ltb 4096 (count-of bytes)) (Err (too-many-tokens File))
+    (cond (ltb max-tokens (count-of bytes)) (Err (too-many-tokens File))
     (cond (ltb (length bytes) (bytes-for (count-of bytes))) (Err file-short)
     (cond (ltb (bytes-for (count-of bytes)) (length bytes)) (Err file-long)
     (cond (eqb (spare-of bytes (count-of bytes)) 0) (Ok (count-of bytes)) (Err file-long)))))

@@ -12,6 +12,7 @@ use Rattle.log.specs.declared.input.Input.{Input}
 use Rattle.log.specs.declared.refusal.Refusal.{Refusal}
 use Rattle.log.specs.declared.refusal.Layer.the-variants.{Input as input-layer}
 use Rattle.log.specs.Kinds.{TOMBSTONE, EOF, DOLLAR, IDENT, SHEBANG}
+use Rattle.log.specs.Limits.{max-tokens, max-records}
 use Rattle.log.specs.Refusals.{too-many-tokens, column-length, wrong-kind, wrong-contextual-kind, wrong-edition}
 
 -- the refusal of a check, if it refused
@@ -56,7 +57,7 @@ editions-fault es = at-place wrong-edition (first-below (λ i. no-edition (getD 
 abbrev pub fits : Input → ℕ → Bool
 fits i n =
     eqb (length (i .contextual .now)) (length (i .kinds .now)) && (eqb (length (i .editions .now)) (length (i .kinds .now))
-    && (eqb (length (i .joint .now)) ((length (i .kinds .now) + 63) / 64) && leb n 65535))
+    && (eqb (length (i .joint .now)) ((length (i .kinds .now) + 63) / 64) && leb n max-records))
 
 -- the first refusal of these, if there is one
 unfoldable pub first-of : List (Option Refusal) → Option Refusal
@@ -70,7 +71,7 @@ when b r = cond b (Some r) None
 -- Why these columns, with a log of so many records, are refused, if they are. Each check goes over all tokens before the next one.
 abbrev pub verdict : Input → ℕ → Option Refusal
 verdict i n = first-of (
-    when (ltb 4096 (length (i .kinds .now))) (too-many-tokens input-layer)
+    when (ltb max-tokens (length (i .kinds .now))) (too-many-tokens input-layer)
     ∷ (when (not (fits i n)) column-length
     ∷ (kinds-fault (i .kinds .now)
     ∷ (contextual-fault (i .kinds .now) (i .contextual .now)

@@ -1,6 +1,8 @@
 -- the numbers of kinds and refusals
 pub mod Kinds
 pub mod Refusals
+-- limits
+pub mod Limits
 -- tokens that are made of several raw ones
 pub mod Parts
 -- the trees that a log stands for, and its records

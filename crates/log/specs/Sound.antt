@@ -10,6 +10,7 @@ use Rattle.log.specs.declared.event.Record.{Record}
 use Rattle.log.specs.declared.event.Record.the-variants.{Start, Finish, Token, Error}
 use Rattle.log.specs.declared.records.Log.{Log}
 use Rattle.log.specs.Kinds.{TOMBSTONE}
+use Rattle.log.specs.Limits.{max-tokens, max-records}
 
 -- the count is within the room
 abbrev pub Within : Log → Type 0
@@ -21,11 +22,11 @@ Roomy l = l .room ≤ length (l .records .now)
 
 -- of which there are few enough that how far ahead a start lies fits into 16 bits
 abbrev pub Short : Log → Type 0
-Short l = length (l .records .now) ≤ 65535
+Short l = length (l .records .now) ≤ max-records
 
 -- there are few enough tokens that no count of them is ever too large
 abbrev pub Few : Log → Type 0
-Few l = length (l .input .kinds .now) ≤ 4096
+Few l = length (l .input .kinds .now) ≤ max-tokens
 
 -- the place is within the tokens
 abbrev pub Inside : Log → Type 0

@@ -31,17 +31,17 @@ use Rattle.grammar.specs.Open.{Opens}
 use Rattle.grammar.specs.Open.Opens.{opened, refused}
 use Rattle.grammar.proofs.Verdicts.{no-end}
 use Rattle.grammar.proofs.Readings.{sound-of}
-use Rattle.file.specs.TokenFile.{written, kind-of, tokens-of, into-columns}
+use Rattle.file.specs.TokenFile.{written, kind-of}
 use Rattle.sinks.specs.Sink.{Heard, Tells}
 use Rattle.sinks.specs.Walk.{Tells-all, Walks, Lawful, Told-more, Walk-law}
 use Rattle.sinks.specs.Walk.Walks.{walked, no-marks}
 use Rattle.sinks.specs.Walk.Tells-all.{all, part}
-use Rattle.reader.specs.List.{All-taken, Takes-all, Holds-file, Lists}
+use Rattle.reader.specs.List.{max-bytes, records, read-from, All-taken, Takes-all, Holds-file, Lists}
 use Rattle.reader.specs.List.Takes-all.{taken, stuck}
 use Rattle.reader.specs.List.Lists.{listed, unread, unopened, full}
 
 -- the exit of a `?`, where the file was not read
-pub not-read : {bytes : List ℕ} {s : Heard} {e : Refusal} (o : Result ℕ Refusal) → length bytes ≤ 2434 → Err e ≡ o → into-columns 1024 1024 16 1024 (tokens-of bytes) ≡ o
+pub not-read : {bytes : List ℕ} {s : Heard} {e : Refusal} (o : Result ℕ Refusal) → length bytes ≤ max-bytes → Err e ≡ o → read-from bytes ≡ o
     → (r : Result (Unit {0}) Refusal) → ErrBy r (λ f. f ≡ e) → Lists bytes s s r
 not-read o le p q (Ok x) z = absurd z
 not-read o le p q (Err f) z = unread le (q ∙ sym p ∙ ap (λ (y : Refusal). Err y) (sym z)) refl
@@ -53,8 +53,8 @@ front f k n xs ys p e =
     ∙ take-at (map f (counting 0 n)) (drop n xs) n (length-map-counting f 0 n)
 
 -- columns that were not opened
-pub not-opened : {bytes : List ℕ} {s : Heard} {n : ℕ} {e : Unopened} {l : RefT (List Record)} {r q : Reading} (i : Input) → length bytes ≤ 2434
-    → into-columns 1024 1024 16 1024 (tokens-of bytes) ≡ Ok n → Holds-file bytes n i → length (l .now) ≡ 8192 → Opens i l r q (Err e) → Lists bytes s s (Err (e .refusal))
+pub not-opened : {bytes : List ℕ} {s : Heard} {n : ℕ} {e : Unopened} {l : RefT (List Record)} {r q : Reading} (i : Input) → length bytes ≤ max-bytes
+    → read-from bytes ≡ Ok n → Holds-file bytes n i → length (l .now) ≡ records → Opens i l r q (Err e) → Lists bytes s s (Err (e .refusal))
 not-opened i le o h k (refused v m z) = unopened i le o h (ap (verdict i) (sym k) ∙ v) refl
 
 -- the exit of a `?`, where the log is full
@@ -66,7 +66,7 @@ all-of : {l m : Log} {x : Unit {0}} → Takes-all l m (Ok x) → All-taken l m
 all-of (taken h) = h
 
 -- the end of the tokens is behind the last one
-last-place : (i : Input) (k : ℕ) (p : Log) → verdict i k ≡ None → env p ≡ env-of i 8192 → kind-at (env p) (p .place) ≡ EOF → p .place ≤ length (p .input .kinds .now) → p .place ≡ length (i .kinds .now)
+last-place : (i : Input) (k : ℕ) (p : Log) → verdict i k ≡ None → env p ≡ env-of i records → kind-at (env p) (p .place) ≡ EOF → p .place ≤ length (p .input .kinds .now) → p .place ≡ length (i .kinds .now)
 last-place i k p v e z le = go (cases-lt (p .place) (length (i .kinds .now)))
   where
     tokens : length (p .input .kinds .now) ≡ length (i .kinds .now)
@@ -78,11 +78,11 @@ last-place i k p v e z le = go (cases-lt (p .place) (length (i .kinds .now)))
 
 -- A reading that was opened, gone through and told.
 pub all-listed : {size : Item → ℕ} {bytes : List ℕ} {s t : Heard} {n : ℕ} {x y : Unit {0}} {marks after : List ℕ} {l : RefT (List Record)} {r q : Reading} (i : Input) (p : Reading)
-    {o : Result (Unit {0}) Refusal} → length bytes ≤ 2434 → into-columns 1024 1024 16 1024 (tokens-of bytes) ≡ Ok n → Holds-file bytes n i → length (l .now) ≡ 8192 → length marks ≡ 8192
+    {o : Result (Unit {0}) Refusal} → length bytes ≤ max-bytes → read-from bytes ≡ Ok n → Holds-file bytes n i → length (l .now) ≡ records → length marks ≡ records
     → Opens i l r q (Ok x) → Takes-all (q .log) (p .log) (Ok y) → Walks size (of (p .log) .recs) marks after s t o → Walk-law (p .log) s t o → Lists bytes s t o
 all-listed {size} {bytes} {s} {t} {n} {marks = marks} {after} {q = q} i p le c h k m (opened v new) d w law = go w law
   where
-    same : env (p .log) ≡ env-of i 8192
+    same : env (p .log) ≡ env-of i records
     same = all-of d .same ∙ new .same ∙ ap (env-of i) k
 
     tokens : length (i .kinds .now) ≡ n
@@ -91,7 +91,7 @@ all-listed {size} {bytes} {s} {t} {n} {marks = marks} {after} {q = q} i p le c h
     place : p .log .place ≡ n
     place = last-place i _ (p .log) v same (all-of d .ended) (p .inside) ∙ tokens
 
-    few : length (of (p .log) .recs) ≤ 8192
+    few : length (of (p .log) .recs) ≤ records
     few = omega (arith, count-is (p .log) (sound-of p), p .within, ap (λ (e : Env). e .room) same)
 
     go : {o : Result (Unit {0}) Refusal} → Walks size (of (p .log) .recs) marks after s t o → Walk-law (p .log) s t o → Lists bytes s t o

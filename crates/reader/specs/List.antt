@@ -21,6 +21,18 @@ use Rattle.file.specs.TokenFile.{count-of, kind-of, contextual-of, edition-of, 
 use Rattle.sinks.specs.Sink.{Heard}
 use Rattle.sinks.specs.Walk.{Lawful, Told-more}
 
+-- the bytes of the longest file
+abbrev pub max-bytes : ℕ
+max-bytes = 2434
+
+-- the records of the log
+abbrev pub records : ℕ
+records = 8192
+
+-- how many tokens are read into the program's columns, which have entries for 1,024, or why none
+abbrev pub read-from : List ℕ → Result ℕ Refusal
+read-from bytes = into-columns 1024 1024 16 1024 (tokens-of bytes)
+
 -- the log is at the end of the same tokens
 pub record All-taken (l m : Log) : Type 0 where
   pub same : env m ≡ env l
@@ -41,10 +53,10 @@ pub record Holds-file (bytes : List ℕ) (n : ℕ) (i : Input) : Type 0 where
 -- A file is told: what the sink was told is lawful for the tokens that the file holds, up to the last one. Or it is refused: as too long, as no
 -- token file, for its tokens, or since the log or the sink is full; and but for the last nothing was told.
 pub data Lists (bytes : List ℕ) (s t : Heard) : Result (Unit {0}) Refusal → Type 0 where
-  listed : {x : Unit {0}} {n : ℕ} (i : Input) → length bytes ≤ 2434 → into-columns 1024 1024 16 1024 (tokens-of bytes) ≡ Ok n → Holds-file bytes n i
-      → Told-more (Lawful (env-of i 8192) n) s t → Lists bytes s t (Ok x)
-  too-long : {e : Refusal} → 2434 < length bytes → e ≡ too-many-tokens File → t ≡ s → Lists bytes s t (Err e)
-  unread : {e : Refusal} → length bytes ≤ 2434 → into-columns 1024 1024 16 1024 (tokens-of bytes) ≡ Err e → t ≡ s → Lists bytes s t (Err e)
-  unopened : {e : Refusal} {n : ℕ} (i : Input) → length bytes ≤ 2434 → into-columns 1024 1024 16 1024 (tokens-of bytes) ≡ Ok n → Holds-file bytes n i
-      → verdict i 8192 ≡ Some e → t ≡ s → Lists bytes s t (Err e)
+  listed : {x : Unit {0}} {n : ℕ} (i : Input) → length bytes ≤ max-bytes → read-from bytes ≡ Ok n → Holds-file bytes n i
+      → Told-more (Lawful (env-of i records) n) s t → Lists bytes s t (Ok x)
+  too-long : {e : Refusal} → max-bytes < length bytes → e ≡ too-many-tokens File → t ≡ s → Lists bytes s t (Err e)
+  unread : {e : Refusal} → length bytes ≤ max-bytes → read-from bytes ≡ Err e → t ≡ s → Lists bytes s t (Err e)
+  unopened : {e : Refusal} {n : ℕ} (i : Input) → length bytes ≤ max-bytes → read-from bytes ≡ Ok n → Holds-file bytes n i
+      → verdict i records ≡ Some e → t ≡ s → Lists bytes s t (Err e)
   full : {e : Refusal} (place : ℕ) → (e ≡ log-full place) ⊎ (e ≡ sink-full place) → Lists bytes s t (Err e)
