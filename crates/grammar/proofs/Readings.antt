@@ -2,24 +2,21 @@
 use mathlib.Core.Path.{_≡_, refl, sym, ap, _∙_}
 use mathlib.Core.List.{List, [], _∷_, _++_, map}
 use mathlib.Core.Logic.{∥∥₁-map}
-use Prim.Native.Nat.{ℕ, _+_, _-_, _≤_}
+use Prim.Native.Nat.{ℕ}
 use native.Mathlib.Omega.{arith}
 use lib.ListN.{length, take, drop}
 use lib.Seq.{take-at, drop-nil}
 use Rattle.log.specs.declared.event.Record.{Record}
 use Rattle.std.specs.declared.result.Result.{Result}
-use Rattle.std.specs.declared.result.Result.the-variants.{Ok, Err}
-use Rattle.log.specs.declared.input.Input.{Input}
 use Rattle.log.specs.declared.parser.Parser.{Parser}
 use Rattle.log.specs.declared.records.Log.{Log}
 use Rattle.log.specs.declared.records.Taken.{Taken}
 use Rattle.log.specs.declared.records.Checkpoint.{Checkpoint}
 use Rattle.log.specs.declared.refusal.Refusal.{Refusal}
-use Rattle.log.specs.Forest.{flats, wides}
 use Rattle.log.specs.Program.{Env, Prog, Out, run}
 use Rattle.log.specs.Program.Out.{ok, no}
 use Rattle.log.specs.Sound.{all-blank, Within, Roomy, Short, Few, Inside, Blanks, Sound}
-use Rattle.log.specs.Model.{of, env, New, Holds, Does, Begins, Concludes, Performs}
+use Rattle.log.specs.Model.{of, env, Holds, Does, Begins, Concludes, Performs}
 use Rattle.log.specs.Model.Performs.{performed, refused}
 use Rattle.log.specs.Reading.{Call as program-call, Reading, begun, kept, called, after}
 use Rattle.log.specs.Reading.Call.{call}

@@ -1,11 +1,11 @@
 -- The verdict on columns, check by check.
 use mathlib.Core.Path.{_≡_, refl, sym, ap, _∙_}
 use mathlib.Core.List.{List, [], _∷_}
-use mathlib.Core.Bool.{Bool, true, false, cond, not, _&&_}
+use mathlib.Core.Bool.{Bool, true, false, not, _&&_}
 use Prim.Native.Nat.{ℕ, _+_, _/_, _≤_, _<_}
 use native.Mathlib.Omega.{arith}
 use lib.ListN.{length, getD}
-use lib.Dec.{eqb, leb, ltb}
+use lib.Dec.{eqb, leb}
 use Rattle.std.proofs.shelf.Tests.{both-ways, and-parts, lt-ltb, le-ltb, ltb-false, leb-true, eqb-true, not-from-true, not-from-false}
 use Rattle.std.proofs.shelf.Lists.{getD-default}
 use Rattle.std.specs.declared.option.Option.{Option}

@@ -2,7 +2,6 @@
 use mathlib.Core.Path.{_≡_}
 use mathlib.Core.List.{List, map}
 use Rattle.log.specs.declared.records.Log.{Log}
-use Rattle.log.specs.Program.{Env}
 use Rattle.log.specs.Steps.{bump-any}
 use Rattle.log.specs.Model.{of, env}
 use Rattle.log.specs.Reading.{Call as program-call, Reading, begun, after}

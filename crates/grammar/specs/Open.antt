@@ -2,7 +2,6 @@
 use mathlib.Core.Path.{_≡_}
 use mathlib.Core.List.{List, []}
 use denote.Ref.{RefT}
-use Prim.Native.Nat.{ℕ}
 use lib.ListN.{length}
 use Rattle.std.specs.declared.option.Option.the-variants.{Some, None}
 use Rattle.std.specs.declared.result.Result.{Result}
@@ -11,7 +10,6 @@ use Rattle.log.specs.declared.event.Record.{Record}
 use Rattle.log.specs.declared.input.Input.{Input}
 use Rattle.log.specs.declared.records.Log.{Log}
 use Rattle.log.specs.Model.{env, New}
-use Rattle.log.specs.Program.{Env}
 use Rattle.grammar.specs.declared.reading.Reading.{Reading}
 use Rattle.grammar.specs.declared.reading.Unopened.{Unopened}
 use Rattle.grammar.specs.Verdict.{verdict}

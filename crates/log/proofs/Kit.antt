@@ -3,7 +3,7 @@
 use mathlib.Core.Path.{_≡_, refl, sym, ap, _∙_}
 use mathlib.Core.Bool.{Bool, true, false, cond, _&&_}
 use mathlib.Core.List.{List, [], _∷_, _++_, append-assoc, append-nil}
-use Prim.Native.Nat.{ℕ, _+_, _≤_, _<_}
+use Prim.Native.Nat.{ℕ, _+_, _≤_}
 use native.Mathlib.Nat.{add-assoc, add-zero}
 use native.Mathlib.Omega.{arith}
 use lib.ListN.{length, length-append}
@@ -13,8 +13,7 @@ use Rattle.std.specs.Results.{ErrBy}
 use Rattle.log.specs.declared.event.Record.{Record}
 use Rattle.log.specs.declared.event.Record.the-variants.{Start, Finish, Token, Error}
 use Rattle.log.specs.declared.refusal.Refusal.{Refusal}
-use Rattle.log.specs.Refusals.{log-full}
-use Rattle.log.specs.Forest.{Forest, flat, flats, wide, wides}
+use Rattle.log.specs.Forest.{flat, flats, wide, wides}
 use Rattle.log.specs.Forest.Tree.{token}
 use Rattle.log.specs.Forest.Forest.{nil, cons}
 use Rattle.log.specs.Program.{Env, Prog, spells, run}

@@ -1,25 +1,23 @@
 -- A whole call: it begins, does what its program comes to, and is concluded.
-use mathlib.Core.Path.{_≡_, refl, sym, ap, _∙_}
+use mathlib.Core.Path.{_≡_, sym, ap, _∙_}
 use mathlib.Core.Bool.{_&&_}
-use mathlib.Core.List.{List, _++_, append-assoc}
+use mathlib.Core.List.{List, _++_}
 use Prim.Native.Nat.{ℕ, _+_, _-_, _≤_}
 use native.Mathlib.Omega.{arith}
-use lib.ListN.{length, take, drop, replicate, length-append, length-replicate, take-append-drop}
-use lib.Seq.{take-at, length-take-le}
+use lib.ListN.{length, take, replicate, length-append, length-replicate, take-append-drop}
+use lib.Seq.{take-at}
 use Rattle.std.proofs.shelf.Lists.{take-take}
 use Rattle.std.specs.declared.result.Result.{Result}
-use Rattle.std.specs.declared.result.Result.the-variants.{Ok, Err}
 use Rattle.log.specs.declared.event.Record.{Record}
 use Rattle.log.specs.declared.input.Input.{Input}
 use Rattle.log.specs.declared.records.Log.{Log}
 use Rattle.log.specs.declared.records.Taken.{Taken}
 use Rattle.log.specs.declared.records.Checkpoint.{Checkpoint}
 use Rattle.log.specs.declared.refusal.Refusal.{Refusal}
-use Rattle.log.specs.Forest.{flats, wides, blank}
+use Rattle.log.specs.Forest.{blank}
 use Rattle.log.specs.Program.{Env, Prog}
-use Rattle.log.specs.Program.Out.{ok, no}
 use Rattle.log.specs.Sound.{Sound}
-use Rattle.log.specs.Model.{State, of, env, env-of, filled, faultless, Grown, from, Does, New, Holds, Begins, Since, Concludes, Performs}
+use Rattle.log.specs.Model.{State, of, env, filled, faultless, Grown, from, Does, New, Holds, Begins, Since, Concludes, Performs}
 use Rattle.log.specs.Model.Does.{did, refused}
 use Rattle.log.specs.Model.Concludes.{accepted, taken-back}
 use Rattle.log.specs.Model.Performs.{performed, refused as not-performed}

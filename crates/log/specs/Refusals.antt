@@ -2,7 +2,7 @@
 use Prim.Native.Nat.{ℕ}
 use Rattle.log.specs.declared.refusal.Refusal.{Refusal}
 use Rattle.log.specs.declared.refusal.Layer.{Layer}
-use Rattle.log.specs.declared.refusal.Layer.the-variants.{Input, Grammar, Log, Sink, File}
+use Rattle.log.specs.declared.refusal.Layer.the-variants.{Input, Log, Sink, File}
 
 abbrev refusal : ℕ → ℕ → Layer → Refusal
 refusal n p l = record { number = n; place = p; layer = l }

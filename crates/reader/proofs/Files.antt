@@ -1,7 +1,7 @@
 -- A file that was read, opened, gone through and told.
 use mathlib.Core.Path.{_≡_, refl, sym, ap, _∙_, subst₂}
 use denote.Ref.{RefT}
-use mathlib.Core.List.{List, map, _++_}
+use mathlib.Core.List.{List, map}
 use mathlib.Core.Logic.{_⊎_, inl, inr}
 use Prim.Native.Nat.{ℕ, _≤_, _<_, _-_}
 use native.Mathlib.Omega.{arith}
@@ -10,7 +10,7 @@ use lib.Seq.{take-at}
 use Rattle.std.specs.Iters.{counting}
 use Rattle.std.proofs.shelf.Counted.{length-map-counting}
 use Rattle.std.proofs.shelf.Tests.{cases-lt}
-use Rattle.std.specs.declared.option.Option.the-variants.{Some, None}
+use Rattle.std.specs.declared.option.Option.the-variants.{None}
 use Rattle.std.specs.declared.result.Result.{Result}
 use Rattle.std.specs.declared.result.Result.the-variants.{Ok, Err}
 use Rattle.std.specs.Results.{ErrBy}
@@ -21,8 +21,7 @@ use Rattle.log.specs.declared.records.Log.{Log}
 use Rattle.log.specs.declared.refusal.Refusal.{Refusal}
 use Rattle.log.specs.Kinds.{EOF}
 use Rattle.log.specs.Program.{Env, kind-at}
-use Rattle.log.specs.Sound.{Sound}
-use Rattle.log.specs.Model.{of, env, env-of, New}
+use Rattle.log.specs.Model.{of, env, env-of}
 use Rattle.log.proofs.Slots.{count-is}
 use Rattle.grammar.specs.declared.reading.Reading.{Reading}
 use Rattle.grammar.specs.declared.reading.Unopened.{Unopened}
@@ -32,8 +31,8 @@ use Rattle.grammar.specs.Open.Opens.{opened, refused}
 use Rattle.grammar.proofs.Verdicts.{no-end}
 use Rattle.grammar.proofs.Readings.{sound-of}
 use Rattle.file.specs.TokenFile.{written, kind-of}
-use Rattle.sinks.specs.Sink.{Heard, Tells}
-use Rattle.sinks.specs.Walk.{Tells-all, Walks, Lawful, Told-more, Walk-law}
+use Rattle.sinks.specs.Sink.{Heard}
+use Rattle.sinks.specs.Walk.{Walks, Lawful, Told-more, Walk-law}
 use Rattle.sinks.specs.Walk.Walks.{walked, no-marks}
 use Rattle.sinks.specs.Walk.Tells-all.{all, part}
 use Rattle.reader.specs.List.{max-bytes, records, read-from, All-taken, Takes-all, Holds-file, Lists}

@@ -1,7 +1,7 @@
 -- Tokens that are taken one by one, up to the last.
 use mathlib.Core.Path.{_≡_, refl, sym, ap, _∙_}
 use mathlib.Core.Bool.{Bool, true, false, cond}
-use Prim.Native.Nat.{ℕ, _+_, _≤_, _<_}
+use Prim.Native.Nat.{ℕ, _<_}
 use native.Mathlib.Omega.{arith}
 use lib.ListN.{length}
 use lib.Dec.{eqb, ltb}
@@ -19,13 +19,13 @@ use Rattle.log.specs.Forest.Tree.{token}
 use Rattle.log.specs.Forest.Forest.{nil, cons}
 use Rattle.log.specs.Program.{Env, Out, kind-at, record-due, run}
 use Rattle.log.specs.Program.Prog.{give, take}
-use Rattle.log.specs.Program.Out.{ok, no, never}
+use Rattle.log.specs.Program.Out.{ok, no}
 use Rattle.log.specs.Steps.{bump-any}
-use Rattle.log.specs.Model.{of, env, Holds, Performs}
+use Rattle.log.specs.Model.{of, env, Performs}
 use Rattle.log.specs.Model.Performs.{performed, refused}
 use Rattle.log.proofs.Ahead.{spells-raw}
 use Rattle.reader.specs.List.{All-taken, Takes-all}
-use Rattle.reader.specs.List.Takes-all.{taken, stuck}
+use Rattle.reader.specs.List.Takes-all.{stuck}
 
 -- What comes of the next token: at the end nothing, and before it one token, or the log is full.
 data Bumped (e : Env) (i : ℕ) : Out (Unit {0}) → Type 0 where

@@ -14,10 +14,10 @@ use Rattle.log.specs.declared.refusal.Refusal.{Refusal}
 use Rattle.log.specs.declared.refusal.Layer.the-variants.{File}
 use Rattle.log.specs.Kinds.{EOF}
 use Rattle.log.specs.Refusals.{too-many-tokens, log-full, sink-full}
-use Rattle.log.specs.Program.{Env, kind-at}
+use Rattle.log.specs.Program.{kind-at}
 use Rattle.log.specs.Model.{env, env-of}
 use Rattle.grammar.specs.Verdict.{verdict}
-use Rattle.file.specs.TokenFile.{count-of, kind-of, contextual-of, edition-of, joint-word, words-for, tokens-of, into-columns}
+use Rattle.file.specs.TokenFile.{kind-of, contextual-of, edition-of, joint-word, words-for, tokens-of, into-columns}
 use Rattle.sinks.specs.Sink.{Heard}
 use Rattle.sinks.specs.Walk.{Lawful, Told-more}
 

@@ -12,7 +12,6 @@ use Rattle.std.specs.declared.option.Option.{Option}
 use Rattle.std.specs.declared.option.Option.the-variants.{Some, None}
 use Rattle.log.specs.declared.event.Record.{Record}
 use Rattle.log.specs.declared.event.Record.the-variants.{Start, Finish, Token, Error}
-use Rattle.log.specs.declared.item.Item.{Item}
 use Rattle.log.specs.declared.item.Item.the-variants.{Leave as leave, Token as told-token, Error as told-error}
 use Rattle.sinks.specs.Walk.{each-from}
 use Rattle.log.specs.Tell.{nearer, climb, use-up, enters, tell-each}

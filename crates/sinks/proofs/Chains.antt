@@ -17,7 +17,7 @@ use Rattle.log.specs.declared.event.Record.{Record}
 use Rattle.log.specs.declared.event.Record.the-variants.{Start, Finish, Token, Error}
 use Rattle.log.specs.declared.item.Item.{Item}
 use Rattle.log.specs.declared.item.Item.the-variants.{Enter as enter}
-use Rattle.log.specs.Tell.{nearer, climb, use-up, enters, enter-unless-0}
+use Rattle.log.specs.Tell.{climb, use-up, enters, enter-unless-0}
 use Rattle.sinks.specs.Walk.{forward-of, is-start, kind-of, at, ahead, parent-of, chain, mark-chain}
 use Rattle.sinks.proofs.ByIndex.{marked-from, kinds-from, kinds-step, marks-step, kinds-end, marks-end}
 

@@ -1,11 +1,11 @@
 -- What the log of a reading tells is lawful, whichever calls have led to it. The list of those calls is not known, only that there is one;
 -- so the law is first brought into facts that can hold in one way only.
-use mathlib.Core.Path.{_≡_, refl, sym, ap, _∙_, subst}
+use mathlib.Core.Path.{_≡_, refl, ap, subst}
 use mathlib.Core.List.{List, [], _∷_, map}
-use mathlib.Core.Bool.{Bool, true, false, Bool-set}
+use mathlib.Core.Bool.{true, false, Bool-set}
 use mathlib.Core.Logic.{∥∥₁-elim}
 use Prim.{IsProp}
-use Prim.Native.Nat.{ℕ, _+_, _≤_, _<_}
+use Prim.Native.Nat.{ℕ, _+_, _≤_}
 use native.Mathlib.Nat.{ℕ-set}
 use native.Mathlib.Omega.{arith}
 use lib.ListN.{length}
@@ -14,7 +14,6 @@ use Rattle.std.specs.Options.{isSome}
 use Rattle.std.specs.declared.option.Option.{Option}
 use Rattle.std.specs.declared.option.Option.the-variants.{Some, None}
 use Rattle.std.specs.declared.result.Result.{Result}
-use Rattle.std.specs.declared.result.Result.the-variants.{Ok, Err}
 use Rattle.log.specs.declared.item.Item.{Item}
 use Rattle.log.specs.declared.item.Item.the-variants.{Enter, Leave, Token, Error}
 use Rattle.log.specs.declared.records.Log.{Log}
@@ -22,14 +21,14 @@ use Rattle.log.specs.declared.refusal.Refusal.{Refusal}
 use Rattle.log.specs.Program.{Env}
 use Rattle.log.specs.Model.{of, env}
 use Rattle.log.specs.Tell.{tell}
-use Rattle.log.specs.Spelling.{Spelled, width, Tokens}
-use Rattle.log.specs.Balance.{Span, match, Balanced}
+use Rattle.log.specs.Spelling.{Spelled, width}
+use Rattle.log.specs.Balance.{Span, match}
 use Rattle.log.proofs.Readings.{Stands, stands-tokens, stands-balanced, after-stands}
 use Rattle.log.proofs.Balancing.{matched-balanced}
 use Rattle.log.proofs.Spelling.{held-once, held-by-none}
 use Rattle.grammar.specs.declared.reading.Reading.{Reading}
 use Rattle.grammar.specs.Calls.{Call, program, seen, Leads}
-use Rattle.sinks.specs.Sink.{Heard, Tells}
+use Rattle.sinks.specs.Sink.{Heard}
 use Rattle.sinks.specs.Sink.Tells.{told}
 use Rattle.sinks.specs.Walk.{Tells-all, Lawful, Walk-law}
 use Rattle.sinks.specs.Walk.Tells-all.{all, part}

@@ -1,12 +1,11 @@
 -- The marks of a walk: one for each record, and others that it leaves alone.
 use mathlib.Core.Path.{_≡_, refl, sym, ap, _∙_}
-use mathlib.Core.List.{List, [], _∷_, _++_, map}
+use mathlib.Core.List.{List, [], _∷_, map}
 use mathlib.Core.Bool.{Bool, true, false}
-use Prim.Native.Nat.{ℕ, zero, suc, _+_, _≤_, _<_}
+use Prim.Native.Nat.{ℕ, zero, suc, _≤_, _<_}
 use native.Mathlib.Nat.{le-of-suc-le-suc, not-suc-le-zero}
-use native.Mathlib.Omega.{arith}
 use lib.ListN.{length, getD, take, drop, set, replicate, length-map, length-replicate}
-use lib.Seq.{map-set, length-take-le, drop-set-lt, drop-at, take-at}
+use lib.Seq.{map-set, length-take-le, drop-at, take-at}
 use Rattle.std.proofs.shelf.Lists.{getD-map, getD-take}
 use Rattle.log.specs.declared.event.Record.{Record}
 use Rattle.log.specs.Tell.{unused}

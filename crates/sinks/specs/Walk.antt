@@ -1,8 +1,8 @@
 -- What a walk does: it tells the records of a reading to a sink, and keeps marks of the starts that are used.
 use mathlib.Core.Path.{_≡_}
-use mathlib.Core.List.{List, [], _∷_, _++_, map}
+use mathlib.Core.List.{List, _∷_, _++_, map}
 use mathlib.Core.Bool.{Bool, true, false, cond, not, _&&_}
-use Prim.Native.Nat.{ℕ, zero, suc, _+_, _≤_, _<_}
+use Prim.Native.Nat.{ℕ, suc, _+_, _≤_, _<_}
 use lib.ListN.{length, getD, take, drop, replicate}
 use lib.Dec.{eqb, ltb}
 use Rattle.std.specs.declared.option.Option.{Option}
@@ -16,12 +16,12 @@ use Rattle.log.specs.declared.records.Log.{Log}
 use Rattle.log.specs.declared.refusal.Refusal.{Refusal}
 use Rattle.log.specs.Refusals.{marks-short, sink-full}
 use Rattle.log.specs.Program.{Env}
-use Rattle.log.specs.Model.{of, env}
-use Rattle.log.specs.Tell.{climb, use-up, nearer, tell-each, joined, unused, tell, teller}
+use Rattle.log.specs.Model.{env}
+use Rattle.log.specs.Tell.{climb, use-up, nearer, tell-each, unused, tell, teller}
 use Rattle.log.specs.Spelling.{Tokens}
 use Rattle.log.specs.Balance.{Balanced}
 use Rattle.sinks.specs.declared.sink.Full.{Full}
-use Rattle.sinks.specs.Sink.{Heard, fitting, sizes, Tells}
+use Rattle.sinks.specs.Sink.{Heard, fitting, Tells}
 
 -- the marks, with the first n zero
 abbrev pub cleared : ℕ → List ℕ → List ℕ

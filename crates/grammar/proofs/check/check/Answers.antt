@@ -1,4 +1,4 @@
-use mathlib.Core.Path.{sym, _∙_}
+use mathlib.Core.Path.{_∙_}
 use Rattle.grammar.specs.Verdict.{fault}
 use Rattle.grammar.proofs.Verdicts.{by-tokens, by-lengths, by-kinds, by-contextual, by-editions, same-length, broke}
 use Rattle.grammar.proofs.check.check.Needs as need

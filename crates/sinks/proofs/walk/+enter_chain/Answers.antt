@@ -1,8 +1,8 @@
-use mathlib.Core.Path.{ap, sym}
-use Prim.Native.Nat.{ℕ, _-_, _/_}
+use mathlib.Core.Path.{ap}
+use Prim.Native.Nat.{_-_, _/_}
 use native.Mathlib.Omega.{arith}
 use borrow.Author.Needs.{needs}
-use lib.ListN.{length, take, drop, length-drop}
+use lib.ListN.{length, take, length-drop}
 use Rattle.log.specs.Tell.{enters}
 use Rattle.sinks.specs.Walk.{chain}
 use Rattle.sinks.proofs.Chains.{enters-halves}

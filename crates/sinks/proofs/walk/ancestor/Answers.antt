@@ -1,8 +1,8 @@
 use mathlib.Core.Path.{_≡_, refl, ap, _∙_}
 use mathlib.Core.Bool.{true}
 use native.Mathlib.Omega.{arith}
-use Prim.Native.Nat.{ℕ, _+_, _<_}
-use lib.ListN.{length, drop}
+use Prim.Native.Nat.{ℕ}
+use lib.ListN.{drop}
 use Rattle.sinks.specs.Walk.{is-start, at, chain}
 use Rattle.sinks.proofs.Chains.{start-within, next-start, last-start, along, goes-on, along-start}
 use Rattle.sinks.proofs.walk.ancestor.Needs as need

@@ -1,4 +1,3 @@
-use mathlib.Core.Path.{_≡_, refl, sym, _∙_}
 use Rattle.log.specs.Forest.{blank}
 use Rattle.sinks.specs.Walk.{at}
 use Rattle.sinks.proofs.Chains.{chain-starts, no-start, first-start, entered, not-entered}

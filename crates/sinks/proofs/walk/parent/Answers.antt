@@ -1,4 +1,4 @@
-use mathlib.Core.Path.{refl, sym, _∙_}
+use mathlib.Core.Path.{_∙_}
 use mathlib.Core.Logic.{⊎-elim}
 use Rattle.log.specs.Forest.{blank}
 use Rattle.sinks.proofs.Chains.{no-parent, parent-by, ahead-zero, ahead-past, ahead-other, ahead-start}

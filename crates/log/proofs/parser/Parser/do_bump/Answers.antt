@@ -1,5 +1,4 @@
 use mathlib.Core.Path.{refl}
-use native.Mathlib.Omega.{arith}
 use borrow.Author.Needs.{needs}
 use Rattle.log.specs.Model.{env}
 use Rattle.log.proofs.Kit.{taken, not-taken, pushed-within}

@@ -1,7 +1,3 @@
-use mathlib.Core.Path.{_≡_, refl, sym, ap}
-use mathlib.Core.Bool.{_&&_}
-use mathlib.Core.List.{[], _∷_}
-use Rattle.log.specs.declared.event.Record.{Record}
 use Rattle.log.specs.Model.{faultless}
 use Rattle.log.proofs.Kit.{and-false, and-true, faultless-one}
 use Rattle.log.proofs.parser.calls.stays_clean.Needs as need
