@@ -4,6 +4,7 @@ ghost use mathlib.Core.Path.{_≡_};
 ghost use mathlib.Core.Bool.{true};
 ghost use Prim.Native.Nat.{_<_, _≤_};
 ghost use lib.ListN.{length, take, drop};
+ghost use lib.Dec.{leb};
 ghost use Rattle.log.specs.Model.{of};
 ghost use Rattle.log.specs.Tell.{enters, unused};
 ghost use Rattle.sinks.specs.Sink.{amounts, Tells};
@@ -16,6 +17,9 @@ use log::item::Item;
 use log::refusal::Refusal;
 use log::syntax_kind::TOMBSTONE;
 
+#[cfg(test)]
+mod tests;
+
 /// Tells the sink all that was recorded. It works with a mark for each record: refused 9 where there are fewer, and nothing is told then.
 /// Refused 10 where the sink is full, at the record reached; what was told before stays told. The marks are zero in the end.
 pub fn walk<S: Sink>(reading: &Reading, marks: &mut [u8], sink: &mut S) -> Result<(), Refusal>
@@ -24,13 +28,20 @@ pub fn walk<S: Sink>(reading: &Reading, marks: &mut [u8], sink: &mut S) -> Resul
 {
     let records = reading.records();
     let count = records.len();
-    if marks.len() < count {
+    if !has_marks(marks, count) {
         return Err(Refusal::marks_short());
     }
     clear(marks, count);
     let r = tell(records, marks, sink);
     clear(marks, count);
     r
+}
+
+/// There is a mark for each of so many records.
+fn has_marks(marks: &[u8], count: usize) -> bool
+    ensures { λ r. ⌜ leb count (length (now (marks .entry))) ≡ r ⌝ }
+{
+    count <= marks.len()
 }
 
 /// Makes the first marks zero.

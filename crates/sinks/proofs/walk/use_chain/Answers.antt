@@ -1,4 +1,4 @@
-use mathlib.Core.Path.{_≡_, refl, sym, ap, _∙_}
+use mathlib.Core.Path.{_≡_, sym, ap, _∙_}
 use Prim.Native.Nat.{_<_}
 use native.Mathlib.Omega.{arith}
 use borrow.Author.Needs.{needs}
@@ -8,9 +8,6 @@ use Rattle.sinks.specs.Walk.{used, mark-chain}
 use Rattle.sinks.proofs.Chains.{start-within, next-start, last-start}
 use Rattle.sinks.proofs.Marks.{used-set, length-used}
 use Rattle.sinks.proofs.walk.use_chain.Needs as need
-
-pub loop-next-holds : need.loop-next-holds
-loop-next-holds c = (c .pre .started, omega arith, omega arith, refl, refl)
 
 pub parent-requires : need.parent-requires
 parent-requires c κs = start-within (c .args .records .now) (c .loop-next .last) (c .loop-next .inv .0)
