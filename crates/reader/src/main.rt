@@ -16,6 +16,8 @@ use std::io::Read;
 use std::io::Write;
 
 mod list;
+#[cfg(test)]
+mod tests;
 
 /// How many bytes a listing has at most.
 const LISTING: usize = 65536;
