@@ -57,7 +57,13 @@ fn refuse(rt: &LibcRuntime, refusal: Refusal) -> Result<(), AnyError> {
 fn run(rt: &LibcRuntime) -> Result<(), AnyError> {
     // One byte more than the longest file tells that a file is too long.
     let mut bytes = [0; MAX_BYTES + 1];
-    let len = rt.report(read_input(rt, &mut bytes))?;
+    let len = match read_input(rt, &mut bytes) {
+        Ok(len) => len,
+        Err(error) => {
+            eprintln!(rt, "reader: {error}")?;
+            return Err("unread".into());
+        }
+    };
     let mut buffer = [0; LISTING];
     let mut listing = Listing::new(&mut buffer);
     match list(&bytes[0..len], &mut listing) {
