@@ -1,6 +1,10 @@
 //! From the bytes of a token file to what a sink is told of it.
 
-ghost use Rattle.reader.specs.List.{Takes-all, Lists};
+ghost use mathlib.Core.Path.{_≡_};
+ghost use lib.ListN.{length};
+ghost use lib.Dec.{ltb};
+ghost use Rattle.sinks.specs.Sink.{amounts};
+ghost use Rattle.reader.specs.List.{max-bytes, Takes-all, Lists};
 use file::read_file;
 use grammar::reading::Reading;
 use log::event::Record;
@@ -19,6 +23,13 @@ const WORDS: usize = 16;
 
 const RECORDS: usize = 8192;
 
+/// The file has more tokens than the program takes, whatever they are.
+fn too_long(bytes: &[u8]) -> bool
+    ensures { λ r. ⌜ ltb max-bytes (length (now (bytes .entry))) ≡ r ⌝ }
+{
+    bytes.len() > MAX_BYTES
+}
+
 /// Takes every token.
 fn take_all(reading: &mut Reading) -> Result<(), Refusal>
     ensures { λ r. ⌜ Takes-all (now (reading .entry) .log) (now (reading .exit) .log) r ⌝ }
@@ -33,9 +44,9 @@ fn take_all(reading: &mut Reading) -> Result<(), Refusal>
 
 /// Tells a sink what the file holds.
 pub fn list<S: Sink>(bytes: &[u8], sink: &mut S) -> Result<(), Refusal>
-    ensures { λ r. ⌜ Lists (now (bytes .entry)) (heard (now (sink .entry))) (heard (now (sink .exit))) r ⌝ }
+    ensures { λ r. ⌜ Lists (amounts size) (now (bytes .entry)) (heard (now (sink .entry))) (heard (now (sink .exit))) r ⌝ }
 {
-    if bytes.len() > MAX_BYTES {
+    if too_long(bytes) {
         return Err(Refusal::too_many_tokens(Layer::File));
     }
     let mut kinds = [0; TOKENS];
