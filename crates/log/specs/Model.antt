@@ -98,6 +98,7 @@ pub record New (input : Input) (n : ℕ) (l : Log) : Type 0 where
   pub log : l .records .now ≡ replicate n blank
   pub count : l .count ≡ 0
   pub place : l .place ≡ 0
+  pub clean : l .clean ≡ true
   pub same : env l ≡ env-of input n
 
 -- A call begins: nothing is at fault yet, and where it began is kept.
