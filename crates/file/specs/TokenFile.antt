@@ -2,10 +2,11 @@
 use mathlib.Core.Path.{_≡_}
 use mathlib.Core.List.{List, _++_, map}
 use mathlib.Core.Bool.{cond, _||_}
-use Prim.Native.Nat.{ℕ, zero, suc, min, _+_, _-_, _*_, _/_, _%_, _^_, _<_}
+use Prim.Native.Nat.{ℕ, zero, suc, min, _+_, _-_, _*_, _/_, _%_, _^_, _≤_, _<_}
 use lib.Dec.{eqb, ltb}
 use lib.ListN.{length, getD, drop}
 use Rattle.std.specs.Iters.{counting}
+use Rattle.std.specs.Vec.{made}
 use Rattle.std.specs.declared.result.Result.{Result}
 use Rattle.std.specs.declared.result.Result.the-variants.{Ok, Err}
 use Rattle.log.specs.Limits.{max-tokens}
@@ -91,9 +92,25 @@ word-of f (suc n) = word-of f n + f n * 2 ^ n
 abbrev pub joint-word : List ℕ → ℕ → ℕ → ℕ
 joint-word bytes n w = word-of (λ b. joint-of bytes (64 * w + b)) (min (n - 64 * w) 64)
 
--- The law of the joint words: in those that are written for n tokens, bit i modulo 64 of word i divided by 64 is the
--- joint bit of token i, and 0 past the last token.
-abbrev pub Joint-law : Type 0
-Joint-law =
-    (bytes column : List ℕ) (n i : ℕ) → i < 64 * words-for n
-    → getD (written (joint-word bytes n) (words-for n) column) (i / 64) 0 / 2 ^ (i % 64) % 2 ≡ cond (ltb i n) (joint-of bytes i) 0
+-- in these words of joint bits, bit i modulo 64 of word i divided by 64 is the joint bit of token i, and 0 past the last of n tokens
+abbrev pub Joint-bits : List ℕ → ℕ → List ℕ → Type 0
+Joint-bits bytes n words = (i : ℕ) → i < 64 * words-for n → getD words (i / 64) 0 / 2 ^ (i % 64) % 2 ≡ cond (ltb i n) (joint-of bytes i) 0
+
+-- The columns that a file is read into, before and after.
+pub record Columns : Type 0 where
+  pub kinds : List ℕ
+  pub contextual : List ℕ
+  pub joint : List ℕ
+  pub editions : List ℕ
+
+abbrev pub columns : List ℕ → List ℕ → List ℕ → List ℕ → Columns
+columns ks cs js es = record { kinds = ks; contextual = cs; joint = js; editions = es }
+
+-- A file is read: the answer is what its bits say of these columns, and each column is then what they say; refused, all are as before.
+pub record Reads (bytes : List ℕ) (before after : Columns) (r : Result ℕ Refusal) : Type 0 where
+  pub answer : r ≡ into-columns (length (before .kinds)) (length (before .contextual)) (length (before .joint)) (length (before .editions)) (tokens-of bytes)
+  pub room : made r (λ n. (n ≤ max-tokens) × (n ≤ length (before .kinds)) × (n ≤ length (before .contextual)) × (words-for n ≤ length (before .joint)) × (n ≤ length (before .editions)))
+  pub kinds-read : after .kinds ≡ written (kind-of bytes) (read-of r) (before .kinds)
+  pub contextual-read : after .contextual ≡ written (contextual-of bytes) (read-of r) (before .contextual)
+  pub joint-read : after .joint ≡ written (joint-word bytes (read-of r)) (words-for (read-of r)) (before .joint)
+  pub editions-read : after .editions ≡ written (edition-of bytes) (read-of r) (before .editions)

@@ -4,12 +4,11 @@ ghost use mathlib.Core.Path.{_≡_};
 ghost use Prim.Native.Nat.{_+_, _*_, _^_, _≤_, _<_};
 ghost use lib.ListN.{length};
 ghost use Rattle.std.specs.Vec.{made};
-ghost use Rattle.file.specs.TokenFile.{bit-at, number-at, token-at, kind-of, contextual-of, joint-of, edition-of, tokens-of, into-columns, words-for, read-of, written, word-of, joint-word};
+ghost use Rattle.file.specs.TokenFile.{bit-at, number-at, token-at, kind-of, contextual-of, joint-of, edition-of, tokens-of, words-for, written, word-of, joint-word, Joint-bits, columns, Reads};
 use log::input::MAX_TOKENS;
 use log::refusal::Layer;
 use log::refusal::Refusal;
 
-pub mod laws;
 #[cfg(test)]
 mod tests;
 
@@ -121,22 +120,15 @@ fn read_joint(bytes: &[u8], count: usize, joint: &mut [u64])
     }
 }
 
-/// Reads the file into the columns, and answers how many tokens it has. In `joint`, token i is at bit i modulo 64
-/// of word i divided by 64, the lowest bit being 0. A refusal leaves the columns as they are, and what lies past
-/// the last token, or past the last word of joint bits, always stays.
-pub fn read_file(
+/// Reads the file into the columns.
+fn read_columns(
     bytes: &[u8],
     kinds: &mut [u16],
     contextual: &mut [u16],
     joint: &mut [u64],
     editions: &mut [u8],
 ) -> Result<usize, Refusal>
-    ensures answer { λ r. ⌜ r ≡ into-columns (length (now (kinds .entry))) (length (now (contextual .entry))) (length (now (joint .entry))) (length (now (editions .entry))) (tokens-of (now (bytes .entry))) ⌝ }
-    ensures room { λ r. ⌜ made r (λ n. (n ≤ 4096) × (n ≤ length (now (kinds .entry))) × (n ≤ length (now (contextual .entry))) × (words-for n ≤ length (now (joint .entry))) × (n ≤ length (now (editions .entry)))) ⌝ }
-    ensures kinds_read { λ r. ⌜ now (kinds .exit) ≡ written (kind-of (now (bytes .entry))) (read-of r) (now (kinds .entry)) ⌝ }
-    ensures contextual_read { λ r. ⌜ now (contextual .exit) ≡ written (contextual-of (now (bytes .entry))) (read-of r) (now (contextual .entry)) ⌝ }
-    ensures joint_read { λ r. ⌜ now (joint .exit) ≡ written (joint-word (now (bytes .entry)) (read-of r)) (words-for (read-of r)) (now (joint .entry)) ⌝ }
-    ensures editions_read { λ r. ⌜ now (editions .exit) ≡ written (edition-of (now (bytes .entry))) (read-of r) (now (editions .entry)) ⌝ }
+    ensures { λ r. ⌜ Reads (now (bytes .entry)) (columns (now (kinds .entry)) (now (contextual .entry)) (now (joint .entry)) (now (editions .entry))) (columns (now (kinds .exit)) (now (contextual .exit)) (now (joint .exit)) (now (editions .exit))) r ⌝ }
 {
     let count = token_count(bytes)?;
     if kinds.len() < count
@@ -151,4 +143,20 @@ pub fn read_file(
     read_joint(bytes, count, joint);
     read_editions(bytes, count, editions);
     Ok(count)
+}
+
+/// Reads the file into the columns, and answers how many tokens it has. In `joint`, token i is at bit i modulo 64
+/// of word i divided by 64, the lowest bit being 0. A refusal leaves the columns as they are, and what lies past
+/// the last token, or past the last word of joint bits, always stays.
+pub fn read_file(
+    bytes: &[u8],
+    kinds: &mut [u16],
+    contextual: &mut [u16],
+    joint: &mut [u64],
+    editions: &mut [u8],
+) -> Result<usize, Refusal>
+    ensures reads { λ r. ⌜ Reads (now (bytes .entry)) (columns (now (kinds .entry)) (now (contextual .entry)) (now (joint .entry)) (now (editions .entry))) (columns (now (kinds .exit)) (now (contextual .exit)) (now (joint .exit)) (now (editions .exit))) r ⌝ }
+    ensures joint_bits { λ r. ⌜ made r (λ n. Joint-bits (now (bytes .entry)) n (now (joint .exit))) ⌝ }
+{
+    read_columns(bytes, kinds, contextual, joint, editions)
 }
