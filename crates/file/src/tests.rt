@@ -52,10 +52,10 @@ fn short_columns() -> Result<(), Fail> {
     let mut j = [7; 1];
     let mut e = [7; 2];
     let short = Err(Refusal::column_short());
-    check_eq(read_file(&TWO, &mut k[0..1], &mut c, &mut j, &mut e), short)?;
-    check_eq(read_file(&TWO, &mut k, &mut c[0..1], &mut j, &mut e), short)?;
-    check_eq(read_file(&TWO, &mut k, &mut c, &mut j[0..0], &mut e), short)?;
-    check_eq(read_file(&TWO, &mut k, &mut c, &mut j, &mut e[0..1]), short)?;
+    check_eq(read_file(&TWO, &mut [7; 1], &mut c, &mut j, &mut e), short)?;
+    check_eq(read_file(&TWO, &mut k, &mut [7; 1], &mut j, &mut e), short)?;
+    check_eq(read_file(&TWO, &mut k, &mut c, &mut [], &mut e), short)?;
+    check_eq(read_file(&TWO, &mut k, &mut c, &mut j, &mut [7; 1]), short)?;
     check_eq((k, c, j, e), ([7; 2], [7; 2], [7; 1], [7; 2]))?;
     let spare = [0, 1, 3, 1, 0x41];
     check_eq(
