@@ -18,8 +18,8 @@ or_odd (suc zero) (suc (suc y)) p q = absurd (omega arith)
 or_odd (suc (suc x)) y p q = absurd (omega arith)
 
 -- of two words joined
-pub bit_or : (a b j : ℕ) → bit (bit_or a b) j ≡ (bit a j || bit b j)
-bit_or a b j =
+pub bit_or_lem : (a b j : ℕ) → bit (bit_or a b) j ≡ (bit a j || bit b j)
+bit_or_lem a b j =
     let x = a / 2 ^ j in
     let y = b / 2 ^ j in
     ap (λ (n : ℕ). eqb (n % 2) 1) (or_shr a b j) ∙ ap (λ (n : ℕ). eqb n 1) (or_mod x y 1)

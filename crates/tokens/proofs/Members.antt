@@ -1,7 +1,7 @@
 -- Which kinds words have, after each way to make them.
 use Rattle.std.proofs.Common.{◌≡◌, ℕ, zero, suc, ◌+◌, ◌/◌, ◌%◌, ◌^◌, ◌<◌, ◌≤◌, Bool, true, false, ◌&&◌, ◌||◌, eqb, leb, ◌⊎◌, List, [], ◌∷◌, ◌++◌, length, get_or, take, set, sym, refl, ap, ◌∙◌, ap₂, inl, inr, arith, lit<, length-set}
 use mathlib.Core.Path.{subst⁻¹}
-use mathlib.Core.Bool.{or_comm, or_assoc, and_false}
+use mathlib.Core.Bool.{or_comm, or_assoc, and-false}
 use lib.Bits.{bit_or, or_lt}
 use lib.Pow.{pow-lt}
 use Rattle.std.proofs.lemmas.List.{take_more, get_or_past, get_or-set_same, get_or-set_other}
@@ -9,7 +9,7 @@ use Rattle.std.proofs.lemmas.Bool.{cases_eq, eq-eqb, ne_eqb, eqb-true, le-leb, l
 use Rattle.tokens.specs.Kinds.{SHEBANG}
 use Rattle.tokens.specs.Words.{in_words, added, each_or, OnlyTokens}
 use Rattle.tokens.specs.Sets.{has}
-use Rattle.tokens.proofs.Bits.{bit, bit_or, bit_pow, bit_zero, bit_high}
+use Rattle.tokens.proofs.Bits.{bit, bit_or_lem, bit_pow, bit_zero, bit_high}
 
 -- ---- one kind more, and none
 
@@ -29,7 +29,7 @@ in_added x words h k =
       | inl e ↦
           ap (λ (n : ℕ). bit (get_or (added x words) n 0) (k % 64)) (sym e)
           ∙ ap (λ (w : ℕ). bit w (k % 64)) (get_or-set_same words (x / 64) v 0 h)
-          ∙ bit_or (get_or words (x / 64) 0) (2 ^ (x % 64)) (k % 64)
+          ∙ bit_or_lem (get_or words (x / 64) 0) (2 ^ (x % 64)) (k % 64)
           ∙ or_comm (bit (get_or words (x / 64) 0) (k % 64)) (bit (2 ^ (x % 64)) (k % 64))
           ∙ ap₂ ◌||◌ (bit_pow (x % 64) (k % 64) ∙ same_word x k e) (ap (λ (n : ℕ). bit (get_or words n 0) (k % 64)) e)
       | inr d ↦
@@ -82,7 +82,7 @@ word_or a b p q (suc (suc (suc i))) =
 pub in_either : (a b : List ℕ) → length a ≡ 3 → length b ≡ 3 → (k : ℕ) → in_words (each_or a b) k ≡ (in_words a k || in_words b k)
 unfolding in_words
 in_either a b p q k =
-    ap (λ (w : ℕ). bit w (k % 64)) (word_or a b p q (k / 64)) ∙ bit_or (get_or a (k / 64) 0) (get_or b (k / 64) 0) (k % 64)
+    ap (λ (w : ℕ). bit w (k % 64)) (word_or a b p q (k / 64)) ∙ bit_or_lem (get_or a (k / 64) 0) (get_or b (k / 64) 0) (k % 64)
 
 -- ---- a list of kinds, one by one
 
@@ -106,7 +106,7 @@ taken_in true h s f = sym (f refl)
 taken_in false h s f = refl
 
 left_out : (e h s : Bool) → (e ≡ true → s ≡ false) → (h && s) ≡ ((e || h) && s)
-left_out true h s f = ap (λ (b : Bool). h && b) (f refl) ∙ and_false h ∙ sym (f refl)
+left_out true h s f = ap (λ (b : Bool). h && b) (f refl) ∙ and-false h ∙ sym (f refl)
 left_out false h s f = refl
 
 pub collects_none : Collects (0 ∷ 0 ∷ 0 ∷ []) []

@@ -1,5 +1,5 @@
 use Rattle.std.proofs.Common.{◌<◌, refl, arith, length-set}
-use lib.Seq.{take_set_lt}
+use lib.Seq.{take-set-lt}
 use Rattle.log.proofs.Slots.{kept, blanks_set}
 use Rattle.log.proofs.Nodes.{counted, started_at, count_started, no_precede, start_below, below, precedes}
 use Rattle.log.proofs.marker.CompletedMarker.precede.Goals as goal
@@ -35,5 +35,5 @@ returns c b n h =
     let q = c.start.new.self in
     let l = q.log in
     let lt : c.args.self.start < l.count = omega (arith, start_below c.requires, counted p, count_started p q c.in-ok-m.ensures) in
-    precedes _ h c.in-ok-m.ensures (take_set_lt l.count l.records.now c.args.self.start _ lt)
+    precedes _ h c.in-ok-m.ensures (take-set-lt l.count l.records.now c.args.self.start _ lt)
     (record { place = refl; clean = refl; same = refl; long = length-set l.records.now _ _ })

@@ -1,5 +1,5 @@
 use Rattle.std.proofs.Common.{◌<◌, sym, refl, arith, length-set}
-use lib.Seq.{take_set_lt}
+use lib.Seq.{take-set-lt}
 use Rattle.log.proofs.Slots.{kept, blanks_set}
 use Rattle.log.proofs.Nodes.{counted, count_pushed, no_complete, completes}
 use Rattle.log.proofs.marker.Marker.complete.Goals as goal
@@ -27,5 +27,5 @@ returns c b rs w i =
     let q = c.push.new.self in
     let l = q.log in
     let lt : c.args.self.at < l.count = omega (arith, c.requires.opened, counted p, count_pushed p q c.in-ok-push.ensures) in
-    completes _ _ c.requires.named c.in-ok-push.ensures i (take_set_lt l.count l.records.now c.args.self.at _ lt)
+    completes _ _ c.requires.named c.in-ok-push.ensures i (take-set-lt l.count l.records.now c.args.self.at _ lt)
     (record { place = refl; clean = refl; same = refl; long = length-set l.records.now _ _ }) refl (sym (counted q)) refl

@@ -11,4 +11,4 @@ returns-then-kind-gt-SHEBANG c =
 
 pub returns : goal.returns
 unfolding in_words
-returns c = record { member = c.has-bit.ensures; token = λ h. absurd (omega arith) }
+returns c = record { member = c.has_bit.ensures; token = λ h. absurd (omega arith) }

@@ -15,4 +15,4 @@ returns c =
     let b = c.args.other.words in
     let p : length a ≡ 3 = search rules in
     let q : length b ≡ 3 = search rules in
-    subst⁻¹ (λ (ws : List ℕ). (k : ℕ) → in_words ws k ≡ (in_words a k || in_words b k)) c.each-or.ensures (in_either a b p q)
+    subst⁻¹ (λ (ws : List ℕ). (k : ℕ) → in_words ws k ≡ (in_words a k || in_words b k)) c.each_or.ensures (in_either a b p q)
