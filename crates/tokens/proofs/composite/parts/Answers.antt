@@ -99,9 +99,9 @@ pub returns-in-53 : goal.returns-in-53
 unfolding parts
 returns-in-53 c = rw c.in-53.is
 
-pub returns-in-default : goal.returns-in-default
+pub returns-in_default : goal.returns-in_default
 unfolding parts
-returns-in-default c = sym (
+returns-in_default c = sym (
     past c.args.kind 41 _ _ _ (omega arith) (
     past c.args.kind 37 _ _ _ (omega arith) (
     past c.args.kind 30 _ _ _ (omega arith) (

@@ -8,12 +8,12 @@ loop-hook-init c = refl
 pub loop-hook-preserved : goal.loop-hook-preserved
 loop-hook-preserved c =
     hook_passes c.args.kinds.now c.args.place c.args.row.now c.loop-hook.hook-index
-    c.loop-hook-test.true c.loop-hook.invariant c.answer-answer.ensures c.if-not-lawful-answer.ensures
+    c.loop-hook-test.true c.loop-hook.invariant c.answer-answer.ensures c.if-not-lawful_answer.ensures
 
-pub returns-then-not-lawful-answer : goal.returns-then-not-lawful-answer
-returns-then-not-lawful-answer c =
+pub returns-then-not-lawful_answer : goal.returns-then-not-lawful_answer
+returns-then-not-lawful_answer c =
     hook_fails c.args.kinds.now c.args.place c.args.row.now c.loop-hook.hook-index
-    c.loop-hook-test.true c.loop-hook.invariant c.answer-answer.ensures c.if-not-lawful-answer.ensures
+    c.loop-hook-test.true c.loop-hook.invariant c.answer-answer.ensures c.if-not-lawful_answer.ensures
 
 pub returns : goal.returns
 returns c = hooks_pass c.args.kinds.now c.args.place c.args.row.now c.loop-hook.hook-index c.loop-hook-test.false c.loop-hook.invariant

@@ -4,8 +4,8 @@ use Rattle.tokens.proofs.Members.{Collects, collects_none, takes_in, leaves_out}
 use Rattle.tokens.proofs.token_set.TokenSet.new.Goals as goal
 use Rattle.tokens.proofs.token_set.TokenSet.new.Goals.{then-kind-le-SHEBANG, else-kind-le-SHEBANG}
 
-pub invariant-of-result : goal.invariant-of-result
-invariant-of-result c = (c.loop-kind.invariant.only, tt)
+pub invariant_of-result : goal.invariant_of-result
+invariant_of-result c = record { tokens = c.loop-kind.invariant.only }
 
 pub returns : goal.returns
 returns c =

@@ -5,9 +5,9 @@ use Rattle.tokens.specs.Words.{in_words, OnlyTokens}
 use Rattle.tokens.proofs.Members.{in_either}
 use Rattle.tokens.proofs.token_set.TokenSet.union.Goals as goal
 
-pub invariant-of-result : goal.invariant-of-result
-invariant-of-result c =
-    (subst⁻¹ OnlyTokens c.each-or.ensures (or_lt 31 _ _ c.args.self.tokens c.args.other.tokens), tt)
+pub invariant_of-result : goal.invariant_of-result
+invariant_of-result c =
+    record { tokens = subst⁻¹ OnlyTokens c.each_or.ensures (or_lt 31 _ _ c.args.self.tokens c.args.other.tokens) }
 
 pub returns : goal.returns
 returns c =
