@@ -1,7 +1,7 @@
 -- The records of the path `a::a::a..`: around each segment a PATH, which precedes the one before it.
 use Rattle.std.specs.Prelude.{ℕ, zero, suc, List, [], ◌∷◌, ◌++◌, Some, None, Option}
-use Rattle.log.specs.declared.event.Record.{Record}
-use Rattle.log.specs.declared.event.Record.TheVariants.{Start, Finish, Token}
+use Rattle.event_log.specs.declared.event.Record.{Record}
+use Rattle.event_log.specs.declared.event.Record.TheVariants.{Start, Finish, Token}
 use Rattle.tokens.specs.Kinds.{PATH, PATH_SEGMENT, NAME_REF, IDENT, COLON2}
 
 -- a segment, and the end of its path

@@ -3,7 +3,7 @@
 
 use crate::path::path;
 use anyhow::anyhow;
-use log::event::Record;
+use event_log::event::Record;
 use refusals::Refusal;
 use sinks::table::NodeTable;
 use sinks::table::entry::Entry;

@@ -3,7 +3,7 @@
 ghost use Rattle.std.specs.Prelude.{◌≡◌, IfOk};
 ghost use Rattle.bench.specs.Path.{parent, path as path_of};
 
-use log::event::Record;
+use event_log::event::Record;
 use std::alloc::{AllocError, Global};
 use tokens::syntax_kind::{COLON2, IDENT, NAME_REF, PATH, PATH_SEGMENT};
 

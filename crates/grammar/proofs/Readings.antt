@@ -2,22 +2,22 @@
 use Rattle.std.proofs.Common.{◌≡◌, ℕ, List, [], ◌∷◌, ◌++◌, map, length, take, drop, Result, sym, refl, ap, ◌∙◌, arith, take_at}
 use mathlib.Core.Logic.{∥∥₁_map}
 use lib.Seq.{drop-nil}
-use Rattle.log.specs.declared.event.Record.{Record}
-use Rattle.log.specs.declared.parser.Parser.{Parser}
-use Rattle.log.specs.declared.records.Log.{Log}
-use Rattle.log.specs.declared.records.Taken.{Taken}
-use Rattle.log.specs.declared.records.Checkpoint.{Checkpoint}
+use Rattle.event_log.specs.declared.event.Record.{Record}
+use Rattle.event_log.specs.declared.parser.Parser.{Parser}
+use Rattle.event_log.specs.declared.records.Log.{Log}
+use Rattle.event_log.specs.declared.records.Taken.{Taken}
+use Rattle.event_log.specs.declared.records.Checkpoint.{Checkpoint}
 use Rattle.refusals.specs.declared.Refusal.{Refusal}
-use Rattle.log.specs.Program.{Env, Prog, Out, run}
-use Rattle.log.specs.Program.Out.{ok, no}
-use Rattle.log.specs.Sound.{all_blank, Within, Roomy, Short, Few, Inside, Rowed, Blanks, Sound}
+use Rattle.event_log.specs.Program.{Env, Prog, Out, run}
+use Rattle.event_log.specs.Program.Out.{ok, no}
+use Rattle.event_log.specs.Sound.{all_blank, Within, Roomy, Short, Few, Inside, Rowed, Blanks, Sound}
 use Rattle.tokens.specs.Islands.{every_below, rows_fit}
-use Rattle.log.specs.Model.{of, env, Holds, Does, Begins, Concludes, Performs}
-use Rattle.log.specs.Model.Performs.{performed, refused}
-use Rattle.log.specs.Reading.{Call as program_call, Reading, begun, kept, called, after}
-use Rattle.log.specs.Reading.Call.{call}
-use Rattle.log.proofs.Slots.{sound_of as parser_sound}
-use Rattle.log.proofs.Performing.{performs}
+use Rattle.event_log.specs.Model.{of, env, Holds, Does, Begins, Concludes, Performs}
+use Rattle.event_log.specs.Model.Performs.{performed, refused}
+use Rattle.event_log.specs.Reading.{Call as program_call, Reading, begun, kept, called, after}
+use Rattle.event_log.specs.Reading.Call.{call}
+use Rattle.event_log.proofs.Slots.{sound_of as parser_sound}
+use Rattle.event_log.proofs.Performing.{performs}
 use Rattle.grammar.specs.declared.reading.Reading.{Reading as declared_reading}
 use Rattle.grammar.specs.Open.{Empty}
 use Rattle.grammar.specs.Calls.{Call, program, seen, Leads, Reached}

@@ -1,10 +1,10 @@
 -- The calls on a reading, and which logs they lead to.
 use Rattle.std.specs.Prelude.{◌≡◌, List, map}
-use Rattle.log.specs.declared.records.Log.{Log}
-use Rattle.log.specs.Steps.{bump_any}
-use Rattle.log.specs.Model.{of, env}
-use Rattle.log.specs.Reading.{Call as program_call, Reading, begun, after}
-use Rattle.log.specs.Reading.Call.{call}
+use Rattle.event_log.specs.declared.records.Log.{Log}
+use Rattle.event_log.specs.Steps.{bump_any}
+use Rattle.event_log.specs.Model.{of, env}
+use Rattle.event_log.specs.Reading.{Call as program_call, Reading, begun, after}
+use Rattle.event_log.specs.Reading.Call.{call}
 
 pub data Call : Type 0 where
   skip : Call

@@ -7,7 +7,7 @@ use Rattle.refusals.specs.declared.Layer.TheVariants.{Input as input_layer}
 use Rattle.tokens.specs.Kinds.{TOMBSTONE, EOF, DOLLAR, IDENT, SHEBANG}
 use Rattle.tokens.specs.Limits.{max_tokens}
 use Rattle.tokens.specs.Islands.{lawful_row, row_at}
-use Rattle.log.specs.Limits.{max_records}
+use Rattle.event_log.specs.Limits.{max_records}
 use Rattle.refusals.specs.Refusals.{too_many_tokens, column_length, wrong_kind, wrong_contextual_kind, wrong_edition, unlawful_row}
 
 -- the refusal of a check, if it refused

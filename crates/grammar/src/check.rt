@@ -3,7 +3,7 @@
 ghost use Rattle.std.specs.Prelude.{◌≡◌, ◌≤◌, length};
 ghost use Rattle.grammar.specs.Verdict.{fault, columns_verdict, verdict, fits, no_kind, no_contextual, no_edition, kinds_fault, contextual_fault, editions_fault, rows_fault};
 
-use log::records::MAX_RECORDS;
+use event_log::records::MAX_RECORDS;
 use refusals::{Layer, Refusal};
 use tokens::input::{Input, MAX_TOKENS};
 use tokens::rows::{Row, lawful};

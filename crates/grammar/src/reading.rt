@@ -1,8 +1,8 @@
-ghost use Rattle.log.specs.Sound.{Within, Roomy, Short, Few, Inside, Rowed, Blanks};
+ghost use Rattle.event_log.specs.Sound.{Within, Roomy, Short, Few, Inside, Rowed, Blanks};
 ghost use Rattle.grammar.specs.Calls.{Reached};
 
-use log::event::Record;
-use log::records::Log;
+use event_log::event::Record;
+use event_log::records::Log;
 use refusals::Refusal;
 
 mod calls;

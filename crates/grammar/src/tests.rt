@@ -1,8 +1,8 @@
 //! What is opened and what is refused, and tokens that are skipped.
 
 use crate::reading::Reading;
-use log::event::Record;
-use log::records::Taken;
+use event_log::event::Record;
+use event_log::records::Taken;
 use refusals::{Layer, Refusal};
 use std::process::Abort;
 use std::test::Fail;

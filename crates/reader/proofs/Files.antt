@@ -3,16 +3,16 @@ use Rattle.std.proofs.Common.{◌≡◌, ℕ, ◌-◌, ◌<◌, ◌≤◌, ◌�
 use Rattle.std.specs.List.{range_with_len}
 use Rattle.std.proofs.lemmas.List.FromFn.{length-map-range_with_len}
 use Rattle.std.proofs.lemmas.Bool.{cases_lt}
-use Rattle.log.specs.declared.event.Record.{Record}
+use Rattle.event_log.specs.declared.event.Record.{Record}
 use Rattle.tokens.specs.declared.input.Input.{Input}
-use Rattle.log.specs.declared.item.Item.{Item}
-use Rattle.log.specs.declared.records.Log.{Log}
+use Rattle.event_log.specs.declared.item.Item.{Item}
+use Rattle.event_log.specs.declared.records.Log.{Log}
 use Rattle.refusals.specs.declared.Refusal.{Refusal}
 use Rattle.tokens.specs.Kinds.{EOF}
-use Rattle.log.specs.Program.{Env, kind_at}
-use Rattle.log.specs.Model.{of, env, env_of}
-use Rattle.log.specs.Tell.{tell}
-use Rattle.log.proofs.Slots.{count_is}
+use Rattle.event_log.specs.Program.{Env, kind_at}
+use Rattle.event_log.specs.Model.{of, env, env_of}
+use Rattle.event_log.specs.Tell.{tell}
+use Rattle.event_log.proofs.Slots.{count_is}
 use Rattle.grammar.specs.declared.reading.Reading.{Reading}
 use Rattle.grammar.specs.declared.reading.Unopened.{Unopened}
 use Rattle.grammar.specs.Verdict.{verdict}

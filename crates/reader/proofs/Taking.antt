@@ -1,21 +1,21 @@
 -- Tokens that are taken one by one, up to the last.
 use Rattle.std.proofs.Common.{◌≡◌, ℕ, ◌<◌, Bool, true, false, cond, eqb, ltb, length, IsErrAnd, Ok, Err, Result, sym, refl, ap, ◌∙◌, arith}
 use Rattle.std.proofs.lemmas.Bool.{eqb-true, eqb-false}
-use Rattle.log.specs.declared.records.Log.{Log}
-use Rattle.log.specs.declared.records.Taken.{Taken}
+use Rattle.event_log.specs.declared.records.Log.{Log}
+use Rattle.event_log.specs.declared.records.Taken.{Taken}
 use Rattle.refusals.specs.declared.Refusal.{Refusal}
 use Rattle.tokens.specs.Kinds.{EOF}
 use Rattle.refusals.specs.Refusals.{log_full}
-use Rattle.log.specs.Forest.{Forest, wide, wides}
-use Rattle.log.specs.Forest.Tree.{token}
-use Rattle.log.specs.Forest.Forest.{nil, cons}
-use Rattle.log.specs.Program.{Env, Out, kind_at, record_due, run}
-use Rattle.log.specs.Program.Prog.{give, take}
-use Rattle.log.specs.Program.Out.{ok, no}
-use Rattle.log.specs.Steps.{bump_any}
-use Rattle.log.specs.Model.{of, env, Performs}
-use Rattle.log.specs.Model.Performs.{performed, refused}
-use Rattle.log.proofs.Ahead.{spells_raw}
+use Rattle.event_log.specs.Forest.{Forest, wide, wides}
+use Rattle.event_log.specs.Forest.Tree.{token}
+use Rattle.event_log.specs.Forest.Forest.{nil, cons}
+use Rattle.event_log.specs.Program.{Env, Out, kind_at, record_due, run}
+use Rattle.event_log.specs.Program.Prog.{give, take}
+use Rattle.event_log.specs.Program.Out.{ok, no}
+use Rattle.event_log.specs.Steps.{bump_any}
+use Rattle.event_log.specs.Model.{of, env, Performs}
+use Rattle.event_log.specs.Model.Performs.{performed, refused}
+use Rattle.event_log.proofs.Ahead.{spells_raw}
 use Rattle.reader.specs.List.{AllTaken, TakesAll}
 use Rattle.reader.specs.List.TakesAll.{stuck}
 

@@ -1,17 +1,17 @@
 -- What the program makes of a token file.
 use Rattle.std.specs.Prelude.{◌≡◌, ℕ, ◌<◌, ◌≤◌, List, map, length, Some, None, Ok, Err, Result}
 use Rattle.std.specs.List.{range_with_len}
-use Rattle.log.specs.declared.event.Record.{Record}
+use Rattle.event_log.specs.declared.event.Record.{Record}
 use Rattle.tokens.specs.declared.input.Input.{Input}
-use Rattle.log.specs.declared.item.Item.{Item}
-use Rattle.log.specs.declared.records.Log.{Log}
+use Rattle.event_log.specs.declared.item.Item.{Item}
+use Rattle.event_log.specs.declared.records.Log.{Log}
 use Rattle.refusals.specs.declared.Refusal.{Refusal}
 use Rattle.refusals.specs.declared.Layer.TheVariants.{File}
 use Rattle.tokens.specs.Kinds.{EOF}
 use Rattle.refusals.specs.Refusals.{too_many_tokens, log_full}
-use Rattle.log.specs.Program.{kind_at}
-use Rattle.log.specs.Model.{env, env_of}
-use Rattle.log.specs.Tell.{tell}
+use Rattle.event_log.specs.Program.{kind_at}
+use Rattle.event_log.specs.Model.{env, env_of}
+use Rattle.event_log.specs.Tell.{tell}
 use Rattle.grammar.specs.Verdict.{verdict}
 use Rattle.file.specs.TokenFile.{kind_of, contextual_of, edition_of, joint_word, words_for, tokens_of, into_columns}
 use Rattle.sinks.specs.Sink.{Heard}

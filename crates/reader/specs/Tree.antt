@@ -1,8 +1,8 @@
 -- The tree that the program prints: a line for each item but leaves, set in by the nodes that it stands in.
 use Rattle.std.specs.Prelude.{ℕ, zero, suc, ◌+◌, ◌-◌, cond, List, [], ◌∷◌, ◌++◌, map, codes, decimal, ◌==◌, slice_index_or}
 use Rattle.std.specs.Borrow.{Bor}
-use Rattle.log.specs.declared.item.Item.{Item}
-use Rattle.log.specs.declared.item.Item.TheVariants.{Enter, Leave, Token, Error}
+use Rattle.event_log.specs.declared.item.Item.{Item}
+use Rattle.event_log.specs.declared.item.Item.TheVariants.{Enter, Leave, Token, Error}
 use Rattle.tokens.specs.Kinds.{TOMBSTONE}
 use Rattle.reader.specs.KindNames.{kind_names}
 

@@ -4,9 +4,9 @@ ghost use Rattle.std.specs.Prelude.{◌≡◌, length, nat_lt};
 ghost use Rattle.sinks.specs.Sink.{amounts};
 ghost use Rattle.reader.specs.List.{max_bytes, TakesAll, Lists};
 
+use event_log::event::Record;
 use file::read_file;
 use grammar::reading::Reading;
-use log::event::Record;
 use refusals::{Layer, Refusal};
 use sinks::sink::Sink;
 use sinks::walk::walk;

@@ -2,7 +2,7 @@
 
 use crate::list::list;
 use crate::tree::tree;
-use log::item::Item;
+use event_log::item::Item;
 use refusals::{Layer, Refusal};
 use sinks::listing::Listing;
 use sinks::sink::Sink;

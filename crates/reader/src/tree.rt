@@ -5,7 +5,7 @@ ghost use Rattle.sinks.specs.Nodes.{items_in};
 ghost use Rattle.reader.specs.Tree.{texts, unknown, name_of, label as label_of, indent, line, depth_after, tree as tree_of};
 
 use crate::kind_names::KIND_NAMES;
-use log::item::Item;
+use event_log::item::Item;
 use sinks::table::entry::Entry;
 use std::alloc::{AllocError, Global};
 use tokens::syntax_kind::TOMBSTONE;

@@ -3,11 +3,11 @@
 use Rattle.std.proofs.Common.{◌≡◌, ℕ, zero, suc, ◌+◌, ◌<◌, ◌≤◌, Bool, true, false, List, [], ◌∷◌, ◌++◌, length, get_or, take, drop, set, Some, None, Option, sym, refl, ap, ◌∙◌, ap₂, append_assoc, le_of_suc-le-suc, not-suc-le-zero, arith, length-drop, take-append-drop, drop_of_length-le, length-take-le, get_or-drop, drop-cons, drop-drop, take-suc-set, drop-set-lt, take-add, drop_at}
 use native.Mathlib.Nat.{suc_inj}
 use lib.Seq.{append_snoc}
-use Rattle.log.specs.declared.event.Record.{Record}
-use Rattle.log.specs.declared.event.Record.TheVariants.{Start, Finish, Token, Error}
-use Rattle.log.specs.declared.item.Item.TheVariants.{Leave as leave, Token as told_token, Error as told_error}
+use Rattle.event_log.specs.declared.event.Record.{Record}
+use Rattle.event_log.specs.declared.event.Record.TheVariants.{Start, Finish, Token, Error}
+use Rattle.event_log.specs.declared.item.Item.TheVariants.{Leave as leave, Token as told_token, Error as told_error}
 use Rattle.sinks.specs.Walk.{each_from}
-use Rattle.log.specs.Tell.{nearer, climb, use_up, enters, tell_each}
+use Rattle.event_log.specs.Tell.{nearer, climb, use_up, enters, tell_each}
 
 -- the marks, with the chain used that goes on from the start at index i by this forward parent
 abbrev pub marked_from : List Record → Option ℕ → ℕ → List Bool → List Bool

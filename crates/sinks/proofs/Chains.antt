@@ -3,11 +3,11 @@ use Rattle.std.proofs.Common.{◌≡◌, ℕ, zero, suc, ◌+◌, ◌-◌, ◌<�
 use native.Mathlib.Nat.{suc_inj}
 use Rattle.std.proofs.lemmas.List.{get_or_default, get_or_past}
 use Rattle.std.proofs.lemmas.Bool.{both_ways, cases_lt, lt-ltb, and_right, and_from}
-use Rattle.log.specs.declared.event.Record.{Record}
-use Rattle.log.specs.declared.event.Record.TheVariants.{Start, Finish, Token, Error}
-use Rattle.log.specs.declared.item.Item.{Item}
-use Rattle.log.specs.declared.item.Item.TheVariants.{Enter as enter}
-use Rattle.log.specs.Tell.{climb, use_up, enters, enter_unless_0}
+use Rattle.event_log.specs.declared.event.Record.{Record}
+use Rattle.event_log.specs.declared.event.Record.TheVariants.{Start, Finish, Token, Error}
+use Rattle.event_log.specs.declared.item.Item.{Item}
+use Rattle.event_log.specs.declared.item.Item.TheVariants.{Enter as enter}
+use Rattle.event_log.specs.Tell.{climb, use_up, enters, enter_unless_0}
 use Rattle.sinks.specs.Walk.{forward_of, is_start, kind_of, at, ahead, parent_of, chain, mark_chain}
 use Rattle.sinks.proofs.ByIndex.{marked_from, kinds_from, kinds_step, marks_step, kinds_end, marks_end}
 

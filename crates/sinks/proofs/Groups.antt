@@ -3,12 +3,12 @@ use Rattle.std.proofs.Common.{◌≡◌, ℕ, suc, ◌+◌, ◌-◌, ◌<◌, �
 use lib.Seq.{append_snoc}
 use Rattle.std.proofs.lemmas.List.{take_all}
 use Rattle.std.proofs.lemmas.Bool.{lt-ltb, le-ltb}
-use Rattle.log.specs.declared.event.Record.{Record}
-use Rattle.log.specs.declared.event.Record.TheVariants.{Start}
-use Rattle.log.specs.declared.item.Item.{Item}
+use Rattle.event_log.specs.declared.event.Record.{Record}
+use Rattle.event_log.specs.declared.event.Record.TheVariants.{Start}
+use Rattle.event_log.specs.declared.item.Item.{Item}
 use Rattle.refusals.specs.declared.Refusal.{Refusal}
 use Rattle.refusals.specs.Refusals.{sink_full}
-use Rattle.log.specs.Tell.{enters, tell_each, joined, unused, tell_from, tell, teller}
+use Rattle.event_log.specs.Tell.{enters, tell_each, joined, unused, tell_from, tell, teller}
 use Rattle.sinks.specs.declared.sink.Full.{Full}
 use Rattle.sinks.specs.Sink.{Heard, fitting, Tells}
 use Rattle.sinks.specs.Sink.Tells.{told, full}

@@ -6,18 +6,18 @@ use mathlib.Core.Logic.{∥∥₁_elim}
 use Prim.{IsProp}
 use native.Mathlib.Nat.{ℕ_set}
 use Rattle.std.proofs.lemmas.Bool.{both_ways}
-use Rattle.log.specs.declared.item.Item.{Item}
-use Rattle.log.specs.declared.item.Item.TheVariants.{Enter, Leave, Token, Error}
-use Rattle.log.specs.declared.records.Log.{Log}
+use Rattle.event_log.specs.declared.item.Item.{Item}
+use Rattle.event_log.specs.declared.item.Item.TheVariants.{Enter, Leave, Token, Error}
+use Rattle.event_log.specs.declared.records.Log.{Log}
 use Rattle.refusals.specs.declared.Refusal.{Refusal}
-use Rattle.log.specs.Program.{Env}
-use Rattle.log.specs.Model.{of, env}
-use Rattle.log.specs.Tell.{tell}
-use Rattle.log.specs.Spelling.{Spelled, width}
-use Rattle.log.specs.Balance.{Span, match}
-use Rattle.log.proofs.Readings.{Stands, stands_tokens, stands_balanced, after_stands}
-use Rattle.log.proofs.Balancing.{matched_balanced}
-use Rattle.log.proofs.Spelling.{held_once, held_by_none}
+use Rattle.event_log.specs.Program.{Env}
+use Rattle.event_log.specs.Model.{of, env}
+use Rattle.event_log.specs.Tell.{tell}
+use Rattle.event_log.specs.Spelling.{Spelled, width}
+use Rattle.event_log.specs.Balance.{Span, match}
+use Rattle.event_log.proofs.Readings.{Stands, stands_tokens, stands_balanced, after_stands}
+use Rattle.event_log.proofs.Balancing.{matched_balanced}
+use Rattle.event_log.proofs.Spelling.{held_once, held_by_none}
 use Rattle.grammar.specs.declared.reading.Reading.{Reading}
 use Rattle.grammar.specs.Calls.{Call, program, seen, Leads}
 use Rattle.sinks.specs.Sink.{Heard}

@@ -3,8 +3,8 @@ use Rattle.std.proofs.Common.{◌≡◌, ℕ, zero, suc, ◌<◌, ◌≤◌, Boo
 use lib.ListN.{length-map, length-replicate}
 use lib.Seq.{map-set}
 use Rattle.std.proofs.lemmas.List.{get_or-map, get_or-take}
-use Rattle.log.specs.declared.event.Record.{Record}
-use Rattle.log.specs.Tell.{unused}
+use Rattle.event_log.specs.declared.event.Record.{Record}
+use Rattle.event_log.specs.Tell.{unused}
 use Rattle.sinks.specs.Walk.{cleared, is_used, used}
 
 take_set_lt : (n : ℕ) (l : List ℕ) (i v : ℕ) → i < n → take n (set l i v) ≡ set (take n l) i v

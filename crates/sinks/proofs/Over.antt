@@ -1,7 +1,7 @@
 -- Bytes that are written over others, and what is read off them then.
 use Rattle.std.proofs.Common.{◌≡◌, ℕ, ◌+◌, ◌<◌, ◌≤◌, List, [], ◌∷◌, ◌++◌, length, get_or, take, drop, set, sym, ap, ◌∙◌, append_assoc, append-nil, add-zero, arith}
 use Rattle.std.proofs.lemmas.List.{length-append, length-take-le, length-drop, length_push, length-set, take-append-drop, take_at, take-set-le, set_at, drop_more}
-use Rattle.log.specs.declared.item.Item.{Item}
+use Rattle.event_log.specs.declared.item.Item.{Item}
 use Rattle.sinks.specs.Lines.{line, listing, read, Small}
 use Rattle.sinks.specs.Listing.{over}
 use Rattle.sinks.proofs.Lines.{read_more, listing_more}

@@ -1,8 +1,8 @@
 -- A node table: the node that follows each item, and the entry that is written for it.
 use Rattle.std.proofs.Common.{◌≡◌, ℕ, ◌+◌, ◌-◌, ◌<◌, ◌≤◌, List, [], ◌∷◌, ◌++◌, length, get_or, take, set, sym, refl, ap, ◌∙◌, arith}
 use Rattle.std.proofs.lemmas.List.{length-map, length-take-le, length-set, take_more_set, get_or-take, get_or-map, map-append}
-use Rattle.log.specs.declared.item.Item.{Item}
-use Rattle.log.specs.declared.item.Item.TheVariants.{Enter, Leave, Token, Error}
+use Rattle.event_log.specs.declared.item.Item.{Item}
+use Rattle.event_log.specs.declared.item.Item.TheVariants.{Enter, Leave, Token, Error}
 use Rattle.sinks.specs.declared.table.NodeTable.{NodeTable}
 use Rattle.sinks.specs.declared.table.entry.Entry.{Entry}
 use Rattle.sinks.specs.Nodes.{items_in, nodes_in, innermost, open_after, around}

@@ -1,10 +1,10 @@
 -- A walk: the marks before and after it.
 use Rattle.std.proofs.Common.{◌≡◌, ℕ, ◌<◌, ◌≤◌, List, ◌++◌, length, drop, replicate, Err, Result, refl, ap, ◌∙◌}
-use Rattle.log.specs.declared.event.Record.{Record}
-use Rattle.log.specs.declared.item.Item.{Item}
+use Rattle.event_log.specs.declared.event.Record.{Record}
+use Rattle.event_log.specs.declared.item.Item.{Item}
 use Rattle.refusals.specs.declared.Refusal.{Refusal}
 use Rattle.refusals.specs.Refusals.{marks_short}
-use Rattle.log.specs.Tell.{unused}
+use Rattle.event_log.specs.Tell.{unused}
 use Rattle.sinks.specs.Sink.{Heard}
 use Rattle.sinks.specs.Walk.{cleared, used, TellsAll, Walks}
 use Rattle.sinks.specs.Walk.Walks.{walked, no_marks}

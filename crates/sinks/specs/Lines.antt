@@ -1,7 +1,7 @@
 -- A listing: a line for each item, and how lines are read back.
 use Rattle.std.specs.Prelude.{ℕ, ◌+◌, ◌-◌, ◌*◌, ◌^◌, ◌<◌, Bool, cond, ◌&&◌, List, [], ◌∷◌, ◌++◌, codes, decimal, fold, ◌==◌, nat_le}
-use Rattle.log.specs.declared.item.Item.{Item}
-use Rattle.log.specs.declared.item.Item.TheVariants.{Enter, Leave, Token, Error}
+use Rattle.event_log.specs.declared.item.Item.{Item}
+use Rattle.event_log.specs.declared.item.Item.TheVariants.{Enter, Leave, Token, Error}
 
 -- what ends a line
 abbrev pub newline : List ℕ

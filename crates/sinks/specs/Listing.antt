@@ -1,10 +1,10 @@
 -- What a listing takes, byte by byte.
 use Rattle.std.specs.Prelude.{◌≡◌, ℕ, ◌+◌, ◌-◌, ◌<◌, ◌≤◌, List, ◌++◌, length, take, drop, Ok, Err, Result}
 use Rattle.std.proofs.Common.{zero-le, suc-le-suc}
-use Rattle.log.specs.declared.item.Item.{Item}
+use Rattle.event_log.specs.declared.item.Item.{Item}
 use Rattle.sinks.specs.declared.sink.Full.{Full}
 use Rattle.sinks.specs.declared.listing.Listing.{Listing}
-use Rattle.log.specs.declared.item.Item.TheVariants.{Enter, Leave, Token, Error}
+use Rattle.event_log.specs.declared.item.Item.TheVariants.{Enter, Leave, Token, Error}
 use Rattle.sinks.specs.Sink.{Size, Heard}
 use Rattle.sinks.specs.Lines.{line, read}
 

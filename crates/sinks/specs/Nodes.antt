@@ -1,8 +1,8 @@
 -- Which node each item stands in. Items are numbered from 1. A node is open from its enter on, until a leave closes it, and a leave closes
 -- the node that was entered last among those that are open.
 use Rattle.std.specs.Prelude.{ℕ, suc, List, [], ◌∷◌, map}
-use Rattle.log.specs.declared.item.Item.{Item}
-use Rattle.log.specs.declared.item.Item.TheVariants.{Enter, Leave, Token, Error}
+use Rattle.event_log.specs.declared.item.Item.{Item}
+use Rattle.event_log.specs.declared.item.Item.TheVariants.{Enter, Leave, Token, Error}
 use Rattle.sinks.specs.declared.table.entry.Entry.{Entry}
 
 -- Open nodes, by the numbers of their enters, the one that was entered last first. The innermost is that one; 0 stands for none.

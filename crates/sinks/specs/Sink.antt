@@ -1,6 +1,6 @@
 -- What a sink takes: one item after the other, while there is room.
 use Rattle.std.specs.Prelude.{◌≡◌, ℕ, ◌+◌, ◌-◌, ◌<◌, ◌≤◌, cond, List, [], ◌∷◌, ◌++◌, length, Ok, Err, Result, nat_le}
-use Rattle.log.specs.declared.item.Item.{Item}
+use Rattle.event_log.specs.declared.item.Item.{Item}
 use Rattle.sinks.specs.declared.sink.Full.{Full}
 
 -- How much room an item takes: at least 1.

@@ -1,7 +1,7 @@
 -- What a node table takes.
 use Rattle.std.specs.Prelude.{◌≡◌, ℕ, ◌+◌, ◌-◌, ◌<◌, List, length, take, Ok, Err, Result, slice_set}
 use Rattle.std.proofs.Common.{zero-le, suc-le-suc}
-use Rattle.log.specs.declared.item.Item.{Item}
+use Rattle.event_log.specs.declared.item.Item.{Item}
 use Rattle.sinks.specs.declared.sink.Full.{Full}
 use Rattle.sinks.specs.declared.table.NodeTable.{NodeTable}
 use Rattle.sinks.specs.declared.table.entry.Entry.{Entry}

@@ -1,16 +1,16 @@
 -- What a walk does: it tells the records of a reading to a sink, and keeps marks of the starts that are used.
 use Rattle.std.specs.Prelude.{◌≡◌, ℕ, suc, ◌+◌, ◌<◌, ◌≤◌, Bool, true, false, cond, not, ◌&&◌, List, ◌∷◌, ◌++◌, map, length, take, drop, replicate, Some, None, Ok, Err, Option, Result, ◌==◌, nat_lt, slice_index_or}
-use Rattle.log.specs.declared.event.Record.{Record}
-use Rattle.log.specs.declared.event.Record.TheVariants.{Start, Finish, Token, Error}
-use Rattle.log.specs.declared.item.Item.{Item}
-use Rattle.log.specs.declared.records.Log.{Log}
+use Rattle.event_log.specs.declared.event.Record.{Record}
+use Rattle.event_log.specs.declared.event.Record.TheVariants.{Start, Finish, Token, Error}
+use Rattle.event_log.specs.declared.item.Item.{Item}
+use Rattle.event_log.specs.declared.records.Log.{Log}
 use Rattle.refusals.specs.declared.Refusal.{Refusal}
 use Rattle.refusals.specs.Refusals.{marks_short, sink_full}
-use Rattle.log.specs.Program.{Env}
-use Rattle.log.specs.Model.{env}
-use Rattle.log.specs.Tell.{climb, use_up, nearer, tell_each, unused, tell, teller}
-use Rattle.log.specs.Spelling.{Tokens}
-use Rattle.log.specs.Balance.{Balanced}
+use Rattle.event_log.specs.Program.{Env}
+use Rattle.event_log.specs.Model.{env}
+use Rattle.event_log.specs.Tell.{climb, use_up, nearer, tell_each, unused, tell, teller}
+use Rattle.event_log.specs.Spelling.{Tokens}
+use Rattle.event_log.specs.Balance.{Balanced}
 use Rattle.sinks.specs.declared.sink.Full.{Full}
 use Rattle.sinks.specs.Sink.{Heard, fitting, Tells}
 

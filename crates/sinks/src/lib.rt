@@ -5,4 +5,4 @@ pub mod sink;
 pub mod table;
 pub mod walk;
 
-pub use log::item::Item;
+pub use event_log::item::Item;

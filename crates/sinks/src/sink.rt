@@ -1,7 +1,7 @@
-ghost use Rattle.log.specs.declared.item.Item.{Item};
+ghost use Rattle.event_log.specs.declared.item.Item.{Item};
 ghost use Rattle.sinks.specs.Sink.{Size, amounts, Heard, Takes};
 
-use log::item::Item;
+use event_log::item::Item;
 
 /// A sink has no room for an item.
 #[derive(Clone, Copy, PartialEq, Eq, Debug)]

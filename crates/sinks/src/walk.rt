@@ -1,15 +1,15 @@
 //! Tells the log of a reading to a sink.
 
 ghost use Rattle.std.specs.Prelude.{◌≡◌, ◌<◌, ◌≤◌, true, length, take, drop, nat_le};
-ghost use Rattle.log.specs.Model.{of};
-ghost use Rattle.log.specs.Tell.{enters, unused};
+ghost use Rattle.event_log.specs.Model.{of};
+ghost use Rattle.event_log.specs.Tell.{enters, unused};
 ghost use Rattle.sinks.specs.Sink.{amounts, Tells};
 ghost use Rattle.sinks.specs.Walk.{cleared, used, at as record_at, is_start, parent_of, chain, mark_chain, TellsRecord, TellsAll, Walks, WalkLaw};
 
 use crate::sink::{Full, Sink};
+use event_log::event::Record;
+use event_log::item::Item;
 use grammar::reading::Reading;
-use log::event::Record;
-use log::item::Item;
 use refusals::Refusal;
 use tokens::syntax_kind::TOMBSTONE;
 

@@ -1,16 +1,16 @@
 //! The calls on a reading.
 
 ghost use Rattle.std.specs.Prelude.{◌≡◌, length};
-ghost use Rattle.log.specs.Model.{of, Meets, Performs};
-ghost use Rattle.log.specs.Steps.{bump_any};
+ghost use Rattle.event_log.specs.Model.{of, Meets, Performs};
+ghost use Rattle.event_log.specs.Steps.{bump_any};
 ghost use Rattle.grammar.specs.Verdict.{fault, verdict};
 ghost use Rattle.grammar.specs.Open.{Opens, Empty};
 
 use super::{Reading, Unopened};
 use crate::check::check;
-use log::event::Record;
-use log::parser::Parser;
-use log::records::{Log, Taken};
+use event_log::event::Record;
+use event_log::parser::Parser;
+use event_log::records::{Log, Taken};
 use refusals::Refusal;
 use tokens::input::Input;
 use tokens::rows::Row;

@@ -3,7 +3,7 @@
 ghost use Rattle.std.specs.Prelude.{◌≡◌, ◌+◌, ◌<◌, ◌≤◌, [], ◌∷◌, ◌++◌, length, take, decimal};
 ghost use Rattle.sinks.specs.Lines.{spaced, line, Small};
 
-use log::item::Item;
+use event_log::item::Item;
 
 /// The beginning of a line. The longest line, `! 255 65535` with its end, has twelve bytes.
 #[derive(Clone, Copy)]

@@ -8,7 +8,7 @@ ghost use Rattle.sinks.specs.Listing.{items_of, room_of, heard_of, size_of, Writ
 use super::Listing;
 use super::line::Line;
 use crate::sink::{Full, Sink};
-use log::item::Item;
+use event_log::item::Item;
 
 impl<'a> Listing<'a> {
     /// Empty, over a buffer that stays as it is.

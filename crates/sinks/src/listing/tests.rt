@@ -2,7 +2,7 @@
 
 use super::Listing;
 use crate::sink::{Full, Sink};
-use log::item::Item;
+use event_log::item::Item;
 use std::process::Abort;
 use std::test::Fail;
 

@@ -1,4 +1,4 @@
-use log::item::Item;
+use event_log::item::Item;
 
 /// An item, and the node that it stands in.
 #[derive(Clone, Copy, PartialEq, Eq, Debug)]

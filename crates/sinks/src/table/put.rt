@@ -8,7 +8,7 @@ ghost use Rattle.sinks.specs.Table.{items_of, room_of, heard_of, size_of, Keeps}
 use super::NodeTable;
 use super::entry::Entry;
 use crate::sink::{Full, Sink};
-use log::item::Item;
+use event_log::item::Item;
 
 impl<'a> NodeTable<'a> {
     /// Empty, over memory that stays as it is.

@@ -3,7 +3,7 @@
 use super::NodeTable;
 use super::entry::Entry;
 use crate::sink::{Full, Sink};
-use log::item::Item;
+use event_log::item::Item;
 use std::test::Fail;
 
 const ENTER: Item = Item::Enter { kind: 263 };

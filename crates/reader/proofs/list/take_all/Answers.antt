@@ -1,5 +1,5 @@
 use Rattle.std.proofs.Common.{length, refl, ap, ◌∙◌, arith}
-use Rattle.log.specs.Program.{Env}
+use Rattle.event_log.specs.Program.{Env}
 use Rattle.reader.specs.List.TakesAll.{taken}
 use Rattle.reader.proofs.Taking.{ended, moved, same_tokens, after, stuck_at}
 use Rattle.reader.proofs.list.take_all.Goals as goal

@@ -1,5 +1,5 @@
 use Rattle.std.proofs.Common.{◌≡◌, ◌-◌, length}
-use Rattle.log.specs.Model.{env}
+use Rattle.event_log.specs.Model.{env}
 use Rattle.reader.proofs.list.take_all.Given as goal
 
 abbrev pub invariant-loop-taken : goal.invariant-loop-taken

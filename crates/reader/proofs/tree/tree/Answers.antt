@@ -1,5 +1,5 @@
 use Rattle.std.proofs.Common.{get_or, string_bytes, sym, ◌∙◌, arith}
-use Rattle.log.specs.declared.item.Item.TheVariants.{Enter}
+use Rattle.event_log.specs.declared.item.Item.TheVariants.{Enter}
 use Rattle.sinks.specs.declared.table.entry.Entry.{Entry}
 use Rattle.reader.proofs.Trees.{depth_low, lines_more, lines_all}
 use Rattle.reader.proofs.tree.tree.Goals as goal

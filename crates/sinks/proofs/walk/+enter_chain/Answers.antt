@@ -1,5 +1,5 @@
 use Rattle.std.proofs.Common.{◌-◌, ◌/◌, length, take, ap, arith, length-drop, rules}
-use Rattle.log.specs.Tell.{enters}
+use Rattle.event_log.specs.Tell.{enters}
 use Rattle.sinks.specs.Walk.{chain}
 use Rattle.sinks.proofs.Chains.{enters_halves}
 use Rattle.sinks.proofs.Taking.{tells_then, tells_exit, tells_as}

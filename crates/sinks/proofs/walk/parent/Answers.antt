@@ -1,5 +1,5 @@
 use Rattle.std.proofs.Common.{◌∙◌, ⊎_elim}
-use Rattle.log.specs.Forest.{blank}
+use Rattle.event_log.specs.Forest.{blank}
 use Rattle.sinks.proofs.Chains.{no_parent, parent_by, ahead_zero, ahead_past, ahead_other, ahead_start}
 use Rattle.sinks.proofs.walk.parent.Goals as goal
 

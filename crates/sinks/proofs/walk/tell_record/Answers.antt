@@ -1,8 +1,8 @@
 use Rattle.std.proofs.Common.{not, [], ◌∷◌, length, take, sym, refl, ap, ◌∙◌, arith}
 use Rattle.std.proofs.lemmas.Bool.{eq-eqb, ne_eqb}
-use Rattle.log.specs.declared.item.Item.TheVariants.{Leave, Token, Error}
-use Rattle.log.specs.Forest.{blank}
-use Rattle.log.specs.Tell.{enters}
+use Rattle.event_log.specs.declared.item.Item.TheVariants.{Leave, Token, Error}
+use Rattle.event_log.specs.Forest.{blank}
+use Rattle.event_log.specs.Tell.{enters}
 use Rattle.sinks.specs.Walk.{is_start, chain, used}
 use Rattle.sinks.proofs.ByIndex.{each_finish, each_token, each_error, each_used}
 use Rattle.sinks.proofs.Chains.{read_at, chain_is}

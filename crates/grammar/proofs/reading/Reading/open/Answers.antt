@@ -1,5 +1,5 @@
 use Rattle.std.proofs.Common.{length, sym, refl}
-use Rattle.log.proofs.Performing.{new_sound}
+use Rattle.event_log.proofs.Performing.{new_sound}
 use Rattle.grammar.specs.Open.Opens.{opened, refused}
 use Rattle.grammar.proofs.Verdicts.{few_tokens, few_records, columns_fine, rows_fine}
 use Rattle.grammar.proofs.Readings.{reached_none, fields}

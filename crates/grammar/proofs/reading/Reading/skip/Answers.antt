@@ -1,6 +1,6 @@
 use Rattle.std.proofs.Common.{refl}
-use Rattle.log.proofs.Slots.{sound_of}
-use Rattle.log.proofs.Performing.{since}
+use Rattle.event_log.proofs.Slots.{sound_of}
+use Rattle.event_log.proofs.Performing.{since}
 use Rattle.grammar.specs.Calls.Call.{skip}
 use Rattle.grammar.proofs.Readings.{performs_on, fields_after}
 use Rattle.grammar.proofs.reading.Reading.skip.Goals as goal

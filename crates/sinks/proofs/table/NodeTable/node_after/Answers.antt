@@ -1,6 +1,6 @@
 use Rattle.std.proofs.Common.{◌≡◌, ℕ, ◌-◌, ◌<◌, [], ◌∷◌, ◌++◌, length, sym, ap, ◌∙◌, ⊎_elim, arith, rules}
-use Rattle.log.specs.declared.item.Item.{Item}
-use Rattle.log.specs.declared.item.Item.TheVariants.{Enter}
+use Rattle.event_log.specs.declared.item.Item.{Item}
+use Rattle.event_log.specs.declared.item.Item.TheVariants.{Enter}
 use Rattle.sinks.specs.declared.table.NodeTable.{NodeTable}
 use Rattle.sinks.specs.declared.table.entry.Entry.{Entry}
 use Rattle.sinks.specs.Nodes.{innermost, open_after}

@@ -1,6 +1,6 @@
 use Rattle.std.proofs.Common.{◌≡◌, ℕ, ◌+◌, ◌<◌, ◌≤◌, true, leb, [], ◌∷◌, ◌++◌, length, get_or, take, set, sym, refl, ap, ◌∙◌, arith, leb-false, leb-true}
 use Rattle.std.proofs.lemmas.List.{length-take-le, take_more}
-use Rattle.log.specs.declared.item.Item.{Item}
+use Rattle.event_log.specs.declared.item.Item.{Item}
 use Rattle.sinks.specs.declared.listing.Listing.{Listing}
 use Rattle.sinks.specs.declared.listing.line.Line.{Line}
 use Rattle.sinks.specs.Lines.{line, listing, read, Small}

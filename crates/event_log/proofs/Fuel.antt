@@ -1,0 +1,80 @@
+-- A loop that has come to an answer or a refusal comes to the same with more turns allowed.
+use Rattle.std.proofs.Common.{◌≡◌, ℕ, zero, suc, ◌+◌, ◌≤◌, Bool, true, false, sym, refl, ap, ◌∙◌, subst, le_of_suc-le-suc, not-suc-le-zero}
+use Rattle.refusals.specs.declared.Refusal.{Refusal}
+use Rattle.event_log.specs.Forest.{Node, Forest, wides}
+use Rattle.event_log.specs.Forest.Forest.{nil}
+use Rattle.event_log.specs.Program.{Turn, Out, Held, size, grow, next, turned, spin, on_node, wind}
+use Rattle.event_log.specs.Program.Turn.{again, done}
+use Rattle.event_log.specs.Program.Out.{ok, no, never}
+use Rattle.event_log.specs.Settling.{Settled}
+
+-- what comes to something settles
+pub settled_ends : {A : Type 0} (o : Out A) → (o ≡ never → ⊥) → Settled o
+settled_ends (ok f a) h = tt
+settled_ends (no r) h = tt
+settled_ends never h = h refl
+
+-- ---- `spin`
+
+settled_grow : {B : Type 0} (f : Forest) (o : Out B) → Settled (grow f o) → Settled o
+unfolding grow
+settled_grow f (ok g b) h = tt
+settled_grow f (no r) h = tt
+settled_grow f never h = h
+
+next_same : {A B : Type 0} (o : Out A) (k l : A → ℕ → ℕ → Out B) (c i : ℕ)
+    → ((a : A) (d j : ℕ) → Settled (k a d j) → l a d j ≡ k a d j) → Settled (next o k c i) → next o l c i ≡ next o k c i
+unfolding next
+next_same (ok f a) k l c i same h = ap (grow f) (same a (c + size f) (i + wides f) (settled_grow f (k a (c + size f) (i + wides f)) h))
+next_same (no r) k l c i same h = refl
+next_same never k l c i same h = refl
+
+turned_same : {S : Type 0} (t : Turn S) (k l : S → ℕ → ℕ → Out S) (c i : ℕ)
+    → ((s : S) (d j : ℕ) → Settled (k s d j) → l s d j ≡ k s d j) → Settled (turned t k c i) → turned t l c i ≡ turned t k c i
+unfolding turned
+turned_same (again s) k l c i same h = same s c i h
+turned_same (done s) k l c i same h = refl
+
+pub spin_more : {S : Type 0} (n m : ℕ) (f : S → ℕ → ℕ → Out (Turn S)) (s : S) (c i : ℕ) → n ≤ m → Settled (spin n f s c i) → spin m f s c i ≡ spin n f s c i
+unfolding spin
+spin_more zero m f s c i l h = absurd h
+spin_more (suc n) zero f s c i l h = absurd (not-suc-le-zero l)
+spin_more (suc n) (suc m) f s c i l h =
+    next_same (f s c i) (λ t. turned t (spin n f)) (λ t. turned t (spin m f)) c i
+    (λ t d j. turned_same t (spin n f) (spin m f) d j (λ x b a. spin_more n m f x b a (le_of_suc-le-suc l)))
+    h
+
+pub spin_ok : {S : Type 0} (n m : ℕ) (f : S → ℕ → ℕ → Out (Turn S)) (s : S) (c i : ℕ) (g : Forest) (a : S) → n ≤ m → spin n f s c i ≡ ok g a → spin m f s c i ≡ ok g a
+spin_ok n m f s c i g a l e = spin_more n m f s c i l (subst Settled (sym e) tt) ∙ e
+
+pub spin_no : {S : Type 0} (n m : ℕ) (f : S → ℕ → ℕ → Out (Turn S)) (s : S) (c i : ℕ) (r : Refusal) → n ≤ m → spin n f s c i ≡ no r → spin m f s c i ≡ no r
+spin_no n m f s c i r l e = spin_more n m f s c i l (subst Settled (sym e) tt) ∙ e
+
+-- ---- `wind`
+
+on_node_same : {A B : Type 0} (o : Out (Held A)) (k l : A → Node → Out (Held B)) → ((a : A) (n : Node) → Settled (k a n) → l a n ≡ k a n) → Settled (on_node o k) → on_node o l ≡ on_node o k
+unfolding on_node
+on_node_same (ok f x) k l same h = same x.answer x.held h
+on_node_same (no r) k l same h = refl
+on_node_same never k l same h = refl
+
+pub wind_more : (n m : ℕ) (t : Node → Bool) (f : Node → Out (Held ℕ)) (x : Node) → n ≤ m → Settled (wind n t f x) → wind m t f x ≡ wind n t f x
+unfolding wind
+wind_more zero m t f x l h = absurd h
+wind_more (suc n) zero t f x l h = absurd (not-suc-le-zero l)
+wind_more (suc n) (suc m) t f x l h = go (t x) h (on_node_same (f x) (λ _. wind n t f) (λ _. wind m t f) (λ _ y. wind_more n m t f y (le_of_suc-le-suc l)))
+  where
+    stay : Out (Held (Unit {0}))
+    stay = ok nil (record { held = x; answer = tt })
+
+    go : (b : Bool) → Settled (elim b [ true ↦ on_node (f x) (λ _. wind n t f) | false ↦ stay ])
+        → (Settled (on_node (f x) (λ _. wind n t f)) → on_node (f x) (λ _. wind m t f) ≡ on_node (f x) (λ _. wind n t f))
+        → ◌≡◌ {A = Out (Held (Unit {0}))} (elim b [ true ↦ on_node (f x) (λ _. wind m t f) | false ↦ stay ]) (elim b [ true ↦ on_node (f x) (λ _. wind n t f) | false ↦ stay ])
+    go true s same = same s
+    go false s same = refl
+
+pub wind_ok : (n m : ℕ) (t : Node → Bool) (f : Node → Out (Held ℕ)) (x : Node) (g : Forest) (y : Held (Unit {0})) → n ≤ m → wind n t f x ≡ ok g y → wind m t f x ≡ ok g y
+wind_ok n m t f x g y l e = wind_more n m t f x l (subst Settled (sym e) tt) ∙ e
+
+pub wind_no : (n m : ℕ) (t : Node → Bool) (f : Node → Out (Held ℕ)) (x : Node) (r : Refusal) → n ≤ m → wind n t f x ≡ no r → wind m t f x ≡ no r
+wind_no n m t f x r l e = wind_more n m t f x l (subst Settled (sym e) tt) ∙ e

@@ -1,0 +1,47 @@
+use Rattle.std.proofs.Common.{◌<◌, refl, arith, length-set}
+use lib.Seq.{take-set-lt}
+use Rattle.event_log.proofs.Slots.{kept, blanks_set}
+use Rattle.event_log.proofs.Nodes.{counted, started_at, count_started, no_precede, start_below, below, precedes}
+use Rattle.event_log.proofs.marker.CompletedMarker.precede.Goals as goal
+
+pub returns-in_err-m : goal.returns-in_err-m
+returns-in_err-m c b n h = no_precede c.in_err-m.ensures _ c.from_residual.ensures.1
+
+pub overflow_sub-p : goal.overflow_sub-p
+overflow_sub-p c = below c.requires c.in_ok-m.ensures
+
+pub overflow_cast-p : goal.overflow_cast-p
+overflow_cast-p c =
+    let p = c.args.p.now in
+    omega (arith, started_at c.in_ok-m.ensures, counted p, p.within, p.roomy, p.short)
+
+pub bounds-p-start : goal.bounds-p-start
+bounds-p-start c =
+    let p = c.args.p.now in
+    let q = c.start.new.self in
+    omega (arith, start_below c.requires, counted p, count_started p q c.in_ok-m.ensures, q.within, q.roomy)
+
+pub invariant_of-p : goal.invariant_of-p
+invariant_of-p c =
+    let p = c.args.p.now in
+    let q = c.start.new.self in
+    let l = q.log in
+    let lt : c.args.self.start < l.count = omega (arith, start_below c.requires, counted p, count_started p q c.in_ok-m.ensures) in
+    record {
+      within = q.within;
+      roomy = kept l.records.now _ _ q.roomy;
+      short = rw length-set q.short;
+      few = q.few;
+      inside = q.inside;
+      rowed = q.rowed;
+      blanks = blanks_set _ _ _ _ lt q.blanks;
+    }
+
+pub returns : goal.returns
+returns c b n h =
+    let p = c.args.p.now in
+    let q = c.start.new.self in
+    let l = q.log in
+    let lt : c.args.self.start < l.count = omega (arith, start_below c.requires, counted p, count_started p q c.in_ok-m.ensures) in
+    precedes _ h c.in_ok-m.ensures (take-set-lt l.count l.records.now c.args.self.start _ lt)
+    (record { place = refl; clean = refl; same = refl; long = length-set l.records.now _ _ })

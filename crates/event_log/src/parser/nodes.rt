@@ -1,0 +1,173 @@
+//! The calls that make nodes: a marker is started, and completed or abandoned; a completed node may be preceded.
+
+ghost use Rattle.std.specs.Prelude.{◌≡◌, ◌<◌};
+ghost use Rattle.event_log.specs.Program.Prog.{give};
+ghost use Rattle.event_log.specs.Program.Wraps.{around};
+ghost use Rattle.event_log.specs.Model.{of, Meets};
+ghost use Rattle.event_log.specs.Marks.{Starts, Completes, Abandons, Named, Settles, Closes, Finishes, Leads, Open, Last, Extends, by_kind};
+ghost use Rattle.event_log.specs.Steps.{err_and_bump, err_and_bump_body};
+
+use super::Parser;
+use crate::event::Record;
+use crate::marker::{CompletedMarker, Marker};
+use refusals::Refusal;
+use tokens::syntax_kind::ERROR;
+
+impl<'a> Parser<'a> {
+    /// Starts a node.
+    pub fn start(&mut self) -> Result<Marker, Refusal>
+        ensures { Starts (of self.old.log) (of self.new.log) result }
+    {
+        let at = self.log.count;
+        self.push(Record::BLANK)?;
+        Ok(Marker { at })
+    }
+
+    /// Records an error, and puts it and the next raw token, if there is one, into a node.
+    pub fn err_and_bump(&mut self, number: u8) -> Result<(), Refusal>
+        ensures { Meets (err_and_bump number) self.old self.new result }
+    {
+        let m = self.start()?;
+        let r = self.error_and_token(number);
+        m.close(self, r, ERROR)
+    }
+
+    fn error_and_token(&mut self, number: u8) -> Result<(), Refusal>
+        ensures { Meets (err_and_bump_body number) self.old self.new result }
+    {
+        self.error(number)?;
+        self.bump_any()
+    }
+}
+
+impl Marker {
+    /// Makes it a node of this kind, around all that was recorded since.
+    pub fn complete(self, p: &mut Parser, kind: u16) -> Result<CompletedMarker, Refusal>
+        requires opened { Open self (of p.old.log) }
+        requires named { 0 < kind }
+        ensures { Completes self kind p.old p.new result }
+    {
+        let Marker { at } = self;
+        p.push(Record::Finish)?;
+        p.log.records[at] = Record::Start {
+            kind,
+            forward: None,
+        };
+        Ok(CompletedMarker {
+            start: at,
+            end: p.log.count,
+            kind,
+        })
+    }
+
+    /// Leaves what was recorded since to the node around it. The start is removed where it is the last record, and else stays blank.
+    pub fn abandon(self, p: &mut Parser)
+        requires { Open self (of p.old.log) }
+        ensures { Abandons self p.old p.new }
+    {
+        let Marker { at } = self;
+        if at + 1 == p.log.count {
+            p.log.records[at] = Record::BLANK;
+            p.log.count = at;
+        }
+    }
+
+    /// Completes the node with the kind that its body answered, or else abandons it, and hands a refusal on.
+    pub fn settle(
+        self,
+        p: &mut Parser,
+        r: Result<Option<u16>, Refusal>,
+    ) -> Result<Option<CompletedMarker>, Refusal>
+        requires opened { Open self (of p.old.log) }
+        requires named { Named r }
+        ensures { Settles self p.old p.new r result }
+    {
+        match r {
+            Ok(answer) => match answer {
+                Some(kind) => {
+                    let c = self.complete(p, kind)?;
+                    Ok(Some(c))
+                }
+                None => {
+                    self.abandon(p);
+                    Ok(None)
+                }
+            },
+            Err(e) => {
+                self.abandon(p);
+                Err(e)
+            }
+        }
+    }
+
+    /// Completes the node with this kind, and hands a refusal of its body on.
+    pub fn finish<A: Drop>(
+        self,
+        p: &mut Parser,
+        r: Result<A, Refusal>,
+        kind: u16,
+    ) -> Result<CompletedMarker, Refusal>
+        requires opened { Open self (of p.old.log) }
+        requires named { 0 < kind }
+        ensures { Finishes self kind p.old p.new r result }
+    {
+        match r {
+            Ok(_) => self.complete(p, kind),
+            Err(e) => {
+                self.abandon(p);
+                Err(e)
+            }
+        }
+    }
+
+    /// The same for a node that nothing will precede.
+    pub fn close<A: Drop>(
+        self,
+        p: &mut Parser,
+        r: Result<A, Refusal>,
+        kind: u16,
+    ) -> Result<(), Refusal>
+        requires opened { Open self (of p.old.log) }
+        requires named { 0 < kind }
+        ensures { Closes self kind p.old p.new r result }
+    {
+        self.finish(p, r, kind)?;
+        Ok(())
+    }
+}
+
+impl CompletedMarker {
+    pub fn kind(&self) -> u16
+        ensures { result ≡ self.now.kind }
+    {
+        self.kind
+    }
+
+    /// Starts a node that precedes this one, around it and all that is recorded from here on.
+    pub fn precede(self, p: &mut Parser) -> Result<Marker, Refusal>
+        requires { Last self (of p.old.log) }
+        ensures { Leads self p.old p.new result }
+    {
+        let CompletedMarker {
+            start,
+            end: _,
+            kind,
+        } = self;
+        let m = p.start()?;
+        p.log.records[start] = Record::Start {
+            kind,
+            forward: Some((m.at - start) as u16),
+        };
+        Ok(m)
+    }
+
+    /// Puts this node alone into one of this kind.
+    pub fn wrap(self, p: &mut Parser, kind: u16) -> Result<CompletedMarker, Refusal>
+        requires last { Last self (of p.old.log) }
+        requires named { 0 < kind }
+        ensures { Extends by_kind (around (give kind)) self p.old p.new result }
+    {
+        let m = self.precede(p)?;
+        m.complete(p, kind)
+    }
+}

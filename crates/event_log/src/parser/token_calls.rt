@@ -1,0 +1,182 @@
+//! The calls of the parser that look at tokens and take them.
+
+ghost use Rattle.std.specs.Prelude.{◌≡◌, ◌+◌, ◌≤◌, true, ◌==◌};
+ghost use Rattle.event_log.specs.Program.{kind_at, contextual_at, edition_at, follows as follows_at, ahead, present, spells, readable};
+ghost use Rattle.event_log.specs.Program.Prog.{take, fault};
+ghost use Rattle.event_log.specs.Model.{env, Meets};
+ghost use Rattle.event_log.specs.Steps.{bump as bumps, eat as eats, bump_any, bump_remap, eat_contextual, expected_kind, err, expect as expects};
+
+use super::Parser;
+use crate::event::{EXPECTED_KIND, Record};
+use refusals::Refusal;
+use tokens::composite::{parts, width};
+use tokens::syntax_kind::{EOF, TOMBSTONE};
+
+impl<'a> Parser<'a> {
+    /// The kind of the next raw token: EOF at the end.
+    pub fn current(&self) -> u16
+        ensures { result ≡ kind_at (env self.now.log) self.now.log.place }
+    {
+        self.log.input.kind(self.log.place)
+    }
+
+    /// The kind of the raw token that is n ahead: EOF past the end.
+    pub fn nth(&self, n: usize) -> u16
+        requires { n ≤ 3 }
+        ensures { result ≡ kind_at (env self.now.log) (self.now.log.place + n) }
+    {
+        self.log.input.kind(self.log.place + n)
+    }
+
+    /// A raw token of this kind follows the one at this place with no space between them, if a kind is asked for.
+    fn follows(&self, place: usize, kind: u16) -> bool
+        requires { place ≤ 4100 }
+        ensures { result ≡ follows_at (env self.now.log) place kind }
+    {
+        kind == EOF || (self.log.input.is_joint(place) && self.log.input.kind(place + 1) == kind)
+    }
+
+    /// A token of this kind begins n raw tokens ahead; asked for `:` at `::`, the answer is yes.
+    pub fn nth_at(&self, n: usize, kind: u16) -> bool
+        requires { n ≤ 3 }
+        ensures { ahead (env self.now.log) (self.now.log.place + n) kind ≡ result }
+    {
+        let (first, second, third) = parts(kind);
+        let place = self.log.place + n;
+        if self.log.input.kind(place) != first {
+            return false;
+        }
+        if !self.follows(place, second) {
+            return false;
+        }
+        self.follows(place + 1, third)
+    }
+
+    /// A token of this kind is next.
+    pub fn at(&self, kind: u16) -> bool
+        ensures { ahead (env self.now.log) self.now.log.place kind ≡ result }
+    {
+        self.nth_at(0, kind)
+    }
+
+    /// The next raw token may be read as this keyword.
+    pub fn at_contextual_kw(&self, kw: u16) -> bool
+        ensures { (contextual_at (env self.now.log) self.now.log.place == kw) ≡ result }
+    {
+        self.log.input.contextual_kind(self.log.place) == kw
+    }
+
+    /// The raw token that is n ahead may be read as this keyword.
+    pub fn nth_at_contextual_kw(&self, n: usize, kw: u16) -> bool
+        requires { n ≤ 3 }
+        ensures { (contextual_at (env self.now.log) (self.now.log.place + n) == kw) ≡ result }
+    {
+        self.log.input.contextual_kind(self.log.place + n) == kw
+    }
+
+    /// The edition that the next raw token is read in: 0 at the end.
+    pub fn current_edition(&self) -> u8
+        ensures { result ≡ edition_at (env self.now.log) self.now.log.place }
+    {
+        self.log.input.edition(self.log.place)
+    }
+
+    /// Takes a token of this kind, which the next raw tokens are known to spell.
+    fn do_bump(&mut self, kind: u16, width: u8) -> Result<(), Refusal>
+        requires { spells (env self.old.log) self.old.log.place kind width ≡ true }
+        ensures { Meets (take kind width) self.old self.new result }
+    {
+        self.push(Record::Token { kind, width })?;
+        self.log.place += width as usize;
+        Ok(())
+    }
+
+    /// Takes the next raw token, if there is one.
+    pub fn bump_any(&mut self) -> Result<(), Refusal>
+        ensures { Meets bump_any self.old self.new result }
+    {
+        let next = self.current();
+        if next == EOF {
+            return Ok(());
+        }
+        self.do_bump(next, 1)
+    }
+
+    /// Takes a token of this kind, which is next.
+    pub fn bump(&mut self, kind: u16) -> Result<(), Refusal>
+        requires { present (env self.old.log) self.old.log.place kind ≡ true }
+        ensures { Meets (bumps kind) self.old self.new result }
+    {
+        self.do_bump(kind, width(kind))
+    }
+
+    /// Takes a token of this kind, if it is next; answers whether it was.
+    pub fn eat(&mut self, kind: u16) -> Result<bool, Refusal>
+        ensures { Meets (eats kind) self.old self.new result }
+    {
+        if self.current() == EOF {
+            return Ok(false);
+        }
+        if !self.at(kind) {
+            return Ok(false);
+        }
+        self.bump(kind)?;
+        Ok(true)
+    }
+
+    /// Takes the next raw token as this keyword, which it can be read as.
+    pub fn bump_remap(&mut self, kind: u16) -> Result<(), Refusal>
+        requires { readable (env self.old.log) self.old.log.place kind ≡ true }
+        ensures { Meets (bump_remap kind) self.old self.new result }
+    {
+        self.do_bump(kind, 1)
+    }
+
+    /// Takes the next raw token as this keyword, if it can be read so; answers whether it can.
+    pub fn eat_contextual_kw(&mut self, kind: u16) -> Result<bool, Refusal>
+        ensures { Meets (eat_contextual kind) self.old self.new result }
+    {
+        if self.current() == EOF {
+            return Ok(false);
+        }
+        if kind == EOF {
+            return Ok(false);
+        }
+        if !self.at_contextual_kw(kind) {
+            return Ok(false);
+        }
+        self.bump_remap(kind)?;
+        Ok(true)
+    }
+
+    /// Records an error that carries no kind.
+    pub fn error(&mut self, number: u8) -> Result<(), Refusal>
+        ensures { Meets (err number) self.old self.new result }
+    {
+        self.push(Record::Error {
+            number,
+            kind: TOMBSTONE,
+        })
+    }
+
+    /// Records that a token of this kind was expected.
+    pub fn expected(&mut self, kind: u16) -> Result<(), Refusal>
+        ensures { Meets (fault expected_kind kind) self.old self.new result }
+    {
+        self.push(Record::Error {
+            number: EXPECTED_KIND,
+            kind,
+        })
+    }
+
+    /// Takes a token of this kind, or records that it was expected; answers whether it was there.
+    pub fn expect(&mut self, kind: u16) -> Result<bool, Refusal>
+        ensures { Meets (expects kind) self.old self.new result }
+    {
+        if self.eat(kind)? {
+            return Ok(true);
+        }
+        self.expected(kind)?;
+        Ok(false)
+    }
+}
