@@ -1,11 +1,10 @@
 -- A whole call: it begins, does what its program comes to, and is concluded.
-use Rattle.std.proofs.Common.{◌≡◌, ℕ, ◌+◌, ◌-◌, ◌≤◌, true, ◌&&◌, List, ◌++◌, length, take, replicate, Result, sym, ap, ◌∙◌, arith, length-append, take-append-drop, take_at}
+use Rattle.std.proofs.Common.{◌≡◌, ℕ, ◌+◌, ◌-◌, ◌≤◌, true, ◌&&◌, List, [], ◌++◌, length, take, replicate, Result, sym, ap, ◌∙◌, arith, length-append, take-append-drop, take_at}
 use lib.ListN.{length-replicate}
 use Rattle.std.proofs.lemmas.List.{take-take}
 use Rattle.event_log.specs.declared.event.Record.{Record}
 use Rattle.tokens.specs.declared.input.Input.{Input}
 use Rattle.tokens.specs.declared.rows.Row.{Row}
-use Rattle.tokens.specs.Islands.{rows_fit}
 use Rattle.event_log.specs.declared.records.Log.{Log}
 use Rattle.event_log.specs.declared.records.Taken.{Taken}
 use Rattle.event_log.specs.declared.records.Checkpoint.{Checkpoint}
@@ -13,22 +12,21 @@ use Rattle.refusals.specs.declared.Refusal.{Refusal}
 use Rattle.event_log.specs.Forest.{blank}
 use Rattle.event_log.specs.Program.{Env, Prog}
 use Rattle.event_log.specs.Sound.{Sound}
-use Rattle.event_log.specs.Model.{State, of, env, filled, faultless, Grown, from, Does, New, Holds, Begins, Since, Concludes, Performs}
+use Rattle.event_log.specs.Model.{State, of, env, filled, faultless, Grown, from, Does, New, NewWithRows, Holds, Begins, Since, Concludes, Performs}
 use Rattle.event_log.specs.Model.Does.{did, refused}
 use Rattle.event_log.specs.Model.Concludes.{accepted, taken_back}
 use Rattle.event_log.specs.Model.Performs.{performed, refused as not_performed}
 use Rattle.event_log.proofs.Growth.{records}
 use Rattle.event_log.proofs.Slots.{count_is, blanks_are, all_blank_filled}
 
--- A new log is sound, where there are not too many records and tokens, and the rows fit.
-pub new_sound : {i : Input} {rows : List Row} {n : ℕ} {l : Log} → New i rows n l → n ≤ 65535 → length i.kinds.now ≤ 4096 → rows_fit i.kinds.now rows ≡ true → Sound l
-new_sound {i} {rows} {n} {l} h short few fit = record {
+-- A new log is sound, where there are not too many records and tokens.
+pub new_with_rows_sound : {i : Input} {rows : List Row} {n : ℕ} {l : Log} → NewWithRows i rows n l → n ≤ 65535 → length i.kinds.now ≤ 4096 → Sound l
+new_with_rows_sound {i} {rows} {n} {l} h short few = record {
   within = omega (arith, h.count);
   roomy = omega (arith, room, long);
   short = omega (arith, long);
   few = omega (arith, tokens);
   inside = omega (arith, h.place);
-  rowed = ap (λ (e : Env). rows_fit e.kinds e.rows) h.same ∙ fit;
   blanks = all_blank_filled l.count n h.log;
 }
   where
@@ -40,6 +38,13 @@ new_sound {i} {rows} {n} {l} h short few fit = record {
 
     tokens : length l.input.kinds.now ≡ length i.kinds.now
     tokens = ap (λ (e : Env). length e.kinds) h.same
+
+-- a new log with no rows is one with rows, of which there are none
+pub with_no_rows : {i : Input} {n : ℕ} {l : Log} → New i n l → NewWithRows i [] n l
+with_no_rows h = record { log = h.log; count = h.count; place = h.place; clean = h.clean; same = h.same }
+
+pub new_sound : {i : Input} {n : ℕ} {l : Log} → New i n l → n ≤ 65535 → length i.kinds.now ≤ 4096 → Sound l
+new_sound h = new_with_rows_sound (with_no_rows h)
 
 -- The records that a log holds, whole
 whole_is : (l : Log) → Sound l → l.records.now ≡ filled (of l).recs (length l.records.now)

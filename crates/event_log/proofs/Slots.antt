@@ -17,7 +17,7 @@ use Rattle.event_log.specs.Model.{of, blanked, filled, PutsBack, Concludes}
 use Rattle.event_log.specs.Model.Concludes.{accepted, taken_back}
 
 pub sound_of : (p : Parser) → Sound p.log
-sound_of p = record { within = p.within; roomy = p.roomy; short = p.short; few = p.few; inside = p.inside; rowed = p.rowed; blanks = p.blanks }
+sound_of p = record { within = p.within; roomy = p.roomy; short = p.short; few = p.few; inside = p.inside; blanks = p.blanks }
 
 pub count_is : (l : Log) → Sound l → length (of l).recs ≡ l.count
 count_is l h = length-take-le l.count l.records.now (let a = h.within in let b = h.roomy in omega arith)

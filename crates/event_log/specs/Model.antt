@@ -17,11 +17,15 @@ use Rattle.event_log.specs.Program.{Env, Prog, Out, run}
 use Rattle.event_log.specs.Program.Out.{ok, no}
 
 -- the tokens of these columns, these rows, and so much room in the log
-abbrev pub env_of : Input → List Row → ℕ → Env
-env_of i rows n = record { kinds = i.kinds.now; contextual = i.contextual.now; joint = i.joint.now; editions = i.editions.now; rows = rows; room = n }
+abbrev pub env_with_rows : Input → List Row → ℕ → Env
+env_with_rows i rows n = record { kinds = i.kinds.now; contextual = i.contextual.now; joint = i.joint.now; editions = i.editions.now; rows = rows; room = n }
+
+-- the tokens of these columns, no rows, and so much room in the log
+abbrev pub env_of : Input → ℕ → Env
+env_of i n = env_with_rows i [] n
 
 abbrev pub env : Log → Env
-env l = env_of l.input l.rows.now l.room
+env l = env_with_rows l.input l.rows.now l.room
 
 -- All that the definitions see of a log. What lies past its count is not seen.
 pub record State : Type 0 where
@@ -95,15 +99,23 @@ pub record Begun (input : Input) (rows : List Row) (records : MutBor (List Recor
   pub count : l.count ≡ 0
   pub place : l.place ≡ 0
   pub clean : l.clean ≡ true
-  pub same : env l ≡ env_of input rows (length records.now)
+  pub same : env l ≡ env_with_rows input rows (length records.now)
 
--- A log before the first of these tokens, with these rows and so many records, all blank.
-pub record New (input : Input) (rows : List Row) (n : ℕ) (l : Log) : Type 0 where
+-- A log before the first of these tokens, with so many records, all blank.
+pub record New (input : Input) (n : ℕ) (l : Log) : Type 0 where
   pub log : l.records.now ≡ replicate n blank
   pub count : l.count ≡ 0
   pub place : l.place ≡ 0
   pub clean : l.clean ≡ true
-  pub same : env l ≡ env_of input rows n
+  pub same : env l ≡ env_of input n
+
+-- The same, with these rows.
+pub record NewWithRows (input : Input) (rows : List Row) (n : ℕ) (l : Log) : Type 0 where
+  pub log : l.records.now ≡ replicate n blank
+  pub count : l.count ≡ 0
+  pub place : l.place ≡ 0
+  pub clean : l.clean ≡ true
+  pub same : env l ≡ env_with_rows input rows n
 
 -- A call begins: nothing is at fault yet, and where it began is kept.
 pub record Begins (l m : Log) (c : Checkpoint) : Type 0 where

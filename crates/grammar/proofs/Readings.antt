@@ -10,8 +10,7 @@ use Rattle.event_log.specs.declared.records.Checkpoint.{Checkpoint}
 use Rattle.refusals.specs.declared.Refusal.{Refusal}
 use Rattle.event_log.specs.Program.{Env, Prog, Out, run}
 use Rattle.event_log.specs.Program.Out.{ok, no}
-use Rattle.event_log.specs.Sound.{all_blank, Within, Roomy, Short, Few, Inside, Rowed, Blanks, Sound}
-use Rattle.tokens.specs.Islands.{every_below, rows_fit}
+use Rattle.event_log.specs.Sound.{all_blank, Within, Roomy, Short, Few, Inside, Blanks, Sound}
 use Rattle.event_log.specs.Model.{of, env, Holds, Does, Begins, Concludes, Performs}
 use Rattle.event_log.specs.Model.Performs.{performed, refused}
 use Rattle.event_log.specs.Reading.{Call as program_call, Reading, begun, kept, called, after}
@@ -57,14 +56,13 @@ reached_more {p = p} {l} {m} c runs (refused {e} n h) r = ∥∥₁_map r (λ q.
 
 -- An empty log, and one that was just opened.
 pub empty_sound : {l : Log} → Empty l → Sound l
-unfolding all_blank every_below
+unfolding all_blank
 empty_sound {l} h = record {
   within = omega (arith, h.count);
   roomy = omega (arith, room);
   short = omega (arith, long);
   few = omega (arith, tokens);
   inside = omega (arith, h.place);
-  rowed = ap (λ (e : Env). rows_fit e.kinds e.rows) h.tokens;
   blanks = ap (λ (xs : List Record). all_blank (drop l.count xs)) h.records ∙ ap all_blank (drop-nil l.count);
 }
   where
@@ -79,13 +77,13 @@ empty_sound {l} h = record {
 
 -- The ghost fields of a reading, in their order
 abbrev pub Fields : Log → Type 0
-Fields l = Within l × (Roomy l × (Short l × (Few l × (Inside l × (Rowed l × (Blanks l × (Reached l × Unit {0})))))))
+Fields l = record { within : Within l; roomy : Roomy l; short : Short l; few : Few l; inside : Inside l; blanks : Blanks l; reached : Reached l }
 
 pub fields : {l : Log} → Sound l → Reached l → Fields l
-fields s r = (s.within, (s.roomy, (s.short, (s.few, (s.inside, (s.rowed, (s.blanks, (r, tt))))))))
+fields s r = record { within = s.within; roomy = s.roomy; short = s.short; few = s.few; inside = s.inside; blanks = s.blanks; reached = r }
 
 pub sound_of : (r : declared_reading) → Sound r.log
-sound_of r = record { within = r.within; roomy = r.roomy; short = r.short; few = r.few; inside = r.inside; rowed = r.rowed; blanks = r.blanks }
+sound_of r = record { within = r.within; roomy = r.roomy; short = r.short; few = r.few; inside = r.inside; blanks = r.blanks }
 
 -- One call on a reading: its log is taken and gone on with, the call begins, does what its program comes to and is concluded, and the log is put back.
 pub performs_on : {m : Prog (Unit {0})} {l t k v u : Log} (p q : Parser) {c : Checkpoint} {r : Result (Unit {0}) Refusal} {x : Result Taken Refusal}

@@ -1,17 +1,16 @@
 -- The verdict on columns, check by check.
-use Rattle.std.proofs.Common.{◌≡◌, ℕ, ◌+◌, ◌/◌, ◌<◌, ◌≤◌, Bool, true, false, not, ◌&&◌, eqb, leb, List, [], ◌∷◌, length, get_or, IsErrAnd, Some, None, Ok, Err, Option, Result, sym, refl, ap, ◌∙◌, arith}
-use Rattle.std.proofs.lemmas.Bool.{both_ways, and_parts, lt-ltb, le-ltb, ltb-false, leb-true, eqb-true, not_from_true, not_from_false, and_from, eq-eqb}
+use Rattle.std.proofs.Common.{◌≡◌, ℕ, ◌+◌, ◌/◌, ◌<◌, ◌≤◌, Bool, true, false, not, ◌&&◌, eqb, leb, List, [], ◌∷◌, length, get_or, ◌≢◌, cond, IsErrAnd, Some, None, Ok, Err, Option, Result, sym, refl, ap, ◌∙◌, arith}
+use Rattle.std.proofs.lemmas.Bool.{ne_eqb, eq-eqb, both_ways, and_parts, lt-ltb, le-ltb, ltb-false, leb-true, eqb-true, not_from_true, not_from_false}
 use Rattle.std.proofs.lemmas.List.{get_or_default}
 use Rattle.tokens.specs.declared.input.Input.{Input}
 use Rattle.tokens.specs.declared.rows.Row.{Row}
-use Rattle.tokens.specs.Islands.{lawful_row, row_at, rows_fit}
-use Rattle.tokens.proofs.Laws.{all_below}
 use Rattle.refusals.specs.declared.Refusal.{Refusal}
 use Rattle.refusals.specs.declared.Layer.TheVariants.{Input as input_layer}
-use Rattle.refusals.specs.Refusals.{too_many_tokens, column_length, wrong_kind, unlawful_row}
+use Rattle.refusals.specs.Refusals.{too_many_tokens, column_length, wrong_kind}
 use Rattle.tokens.specs.Kinds.{EOF}
+use Rattle.tokens.specs.Islands.{lawful_row, row_at}
 use Rattle.grammar.proofs.Firsts.{none_below}
-use Rattle.grammar.specs.Verdict.{fault, first_of, first_below, at_place, when, fits, no_kind, kinds_fault, contextual_fault, editions_fault, rows_fault, columns_verdict, verdict}
+use Rattle.grammar.specs.Verdict.{fault, first_of, at_place, when, fits, no_kind, kinds_fault, contextual_fault, editions_fault, rows_fault, row_count_fault, verdict, verdict_with_rows}
 
 passes : (o : Option Refusal) (rs : List (Option Refusal)) → o ≡ None → first_of (o ∷ rs) ≡ first_of rs
 unfolding first_of
@@ -41,61 +40,52 @@ not_at_place : (r : ℕ → Refusal) (o : Option ℕ) → at_place r o ≡ None 
 not_at_place r None h = refl
 not_at_place r (Some i) h = absurd (let z : ◌≡◌ {A = ℕ} 0 1 = cc in omega arith)
 
-module _ (i : Input) (rows n : ℕ) where
-  pub by_tokens : 4096 < length i.kinds.now → {e : Refusal} → e ≡ too_many_tokens input_layer → Some e ≡ columns_verdict i rows n
+module _ (i : Input) (n : ℕ) where
+  pub by_tokens : 4096 < length i.kinds.now → {e : Refusal} → e ≡ too_many_tokens input_layer → Some e ≡ verdict i n
   by_tokens h p = ap (λ (x : Refusal). Some x) p ∙ sym (stops _ _ (when_yes _ _ (lt-ltb 4096 _ h)))
 
   module _ (few : length i.kinds.now ≤ 4096) where
-    past_tokens : columns_verdict i rows n ≡ first_of (when (not (fits i rows n)) column_length ∷ (kinds_fault i.kinds.now ∷ (contextual_fault i.kinds.now i.contextual.now ∷ (editions_fault i.editions.now ∷ []))))
+    past_tokens : verdict i n ≡ first_of (when (not (fits i n)) column_length ∷ (kinds_fault i.kinds.now ∷ (contextual_fault i.kinds.now i.contextual.now ∷ (editions_fault i.editions.now ∷ []))))
     past_tokens = passes _ _ (when_no _ _ (le-ltb 4096 _ few))
 
-    pub by_lengths : false ≡ fits i rows n → {e : Refusal} → e ≡ column_length → Some e ≡ columns_verdict i rows n
+    pub by_lengths : false ≡ fits i n → {e : Refusal} → e ≡ column_length → Some e ≡ verdict i n
     by_lengths h p = ap (λ (x : Refusal). Some x) p ∙ sym (past_tokens ∙ stops _ _ (when_yes _ _ (not_from_false _ (sym h))))
 
-    module _ (fit : true ≡ fits i rows n) where
-      past_lengths : columns_verdict i rows n ≡ first_of (kinds_fault i.kinds.now ∷ (contextual_fault i.kinds.now i.contextual.now ∷ (editions_fault i.editions.now ∷ [])))
+    module _ (fit : true ≡ fits i n) where
+      past_lengths : verdict i n ≡ first_of (kinds_fault i.kinds.now ∷ (contextual_fault i.kinds.now i.contextual.now ∷ (editions_fault i.editions.now ∷ [])))
       past_lengths = past_tokens ∙ passes _ _ (when_no _ _ (not_from_true _ (sym fit)))
 
-      pub by_kinds : {e : Refusal} → Some e ≡ kinds_fault i.kinds.now → Some e ≡ columns_verdict i rows n
+      pub by_kinds : {e : Refusal} → Some e ≡ kinds_fault i.kinds.now → Some e ≡ verdict i n
       by_kinds p = sym (past_lengths ∙ stops _ _ (sym p))
 
       module _ (kinds : None ≡ kinds_fault i.kinds.now) where
-        pub by_contextual : {e : Refusal} → Some e ≡ contextual_fault i.kinds.now i.contextual.now → Some e ≡ columns_verdict i rows n
+        pub by_contextual : {e : Refusal} → Some e ≡ contextual_fault i.kinds.now i.contextual.now → Some e ≡ verdict i n
         by_contextual p = sym (past_lengths ∙ passes _ _ (sym kinds) ∙ stops _ _ (sym p))
 
-        pub by_editions : None ≡ contextual_fault i.kinds.now i.contextual.now → (o : Option Refusal) → o ≡ editions_fault i.editions.now → o ≡ columns_verdict i rows n
+        pub by_editions : None ≡ contextual_fault i.kinds.now i.contextual.now → (o : Option Refusal) → o ≡ editions_fault i.editions.now → o ≡ verdict i n
         unfolding first_of
         by_editions h None p = sym (past_lengths ∙ passes _ _ (sym kinds) ∙ passes _ _ (sym h) ∙ passes _ _ (sym p))
         by_editions h (Some r) p = sym (past_lengths ∙ passes _ _ (sym kinds) ∙ passes _ _ (sym h) ∙ stops _ _ (sym p))
 
   -- accepted columns are not too long
-  pub few_tokens : columns_verdict i rows n ≡ None → length i.kinds.now ≤ 4096
+  pub few_tokens : verdict i n ≡ None → length i.kinds.now ≤ 4096
   few_tokens h = ltb-false 4096 _ (not_when _ _ (unstopped _ _ h).0)
 
-  fitting : columns_verdict i rows n ≡ None → fits i rows n ≡ true
-  fitting h = go (fits i rows n) (not_when _ _ (unstopped _ _ (unstopped _ _ h).1).0)
-    where
-      go : (b : Bool) → not b ≡ false → b ≡ true
-      go true p = refl
-      go false p = absurd (both_ways true p refl)
-
-  -- the last two of the tests on lengths
-  rows_and_records : columns_verdict i rows n ≡ None → (eqb rows (length i.kinds.now) && leb n 65535) ≡ true
-  rows_and_records h =
+  pub few_records : verdict i n ≡ None → n ≤ 65535
+  few_records h =
+      let f : not (fits i n) ≡ false = not_when _ _ (unstopped _ _ (unstopped _ _ h).1).0 in
       let a : Bool = eqb (length i.contextual.now) (length i.kinds.now) in
       let b : Bool = eqb (length i.editions.now) (length i.kinds.now) in
       let c : Bool = eqb (length i.joint.now) ((length i.kinds.now + 63) / 64) in
-      let d : Bool = eqb rows (length i.kinds.now) && leb n 65535 in
-      (and_parts c d (and_parts b (c && d) (and_parts a (b && (c && d)) (fitting h)).1).1).1
-
-  pub few_records : columns_verdict i rows n ≡ None → n ≤ 65535
-  few_records h = leb-true n 65535 (and_parts (eqb rows (length i.kinds.now)) (leb n 65535) (rows_and_records h)).1
-
-  pub a_row_each : columns_verdict i rows n ≡ None → rows ≡ length i.kinds.now
-  a_row_each h = eqb-true rows _ (and_parts (eqb rows (length i.kinds.now)) (leb n 65535) (rows_and_records h)).0
+      let d : Bool = leb n 65535 in
+      leb-true n 65535 (and_parts c d (and_parts b (c && d) (and_parts a (b && (c && d)) (fitting (fits i n) f)).1).1).1
+    where
+      fitting : (b : Bool) → not b ≡ false → b ≡ true
+      fitting true p = refl
+      fitting false p = absurd (both_ways true p refl)
 
   -- and none of their tokens is the end
-  pub no_end : columns_verdict i rows n ≡ None → (k : ℕ) → k < length i.kinds.now → get_or i.kinds.now k EOF ≡ EOF → ⊥
+  pub no_end : verdict i n ≡ None → (k : ℕ) → k < length i.kinds.now → get_or i.kinds.now k EOF ≡ EOF → ⊥
   no_end h k lt e =
       let ks : List ℕ = i.kinds.now in
       let kinds : kinds_fault ks ≡ None = (unstopped _ _ (unstopped _ _ (unstopped _ _ h).1).1).0 in
@@ -103,8 +93,8 @@ module _ (i : Input) (rows n : ℕ) where
       both_ways (no_kind (get_or ks k 0)) fine (ap no_kind (get_or_default ks k 0 EOF lt ∙ e))
 
 -- columns that fit are as long as each other
-pub same_length : (i : Input) (rows n : ℕ) → true ≡ fits i rows n → length i.kinds.now ≡ length i.contextual.now
-same_length i rows n h = sym (eqb-true _ _ (and_parts (eqb (length i.contextual.now) (length i.kinds.now)) _ (sym h)).0)
+pub same_length : (i : Input) (n : ℕ) → true ≡ fits i n → length i.kinds.now ≡ length i.contextual.now
+same_length i n h = sym (eqb-true _ _ (and_parts (eqb (length i.contextual.now) (length i.kinds.now)) _ (sym h)).0)
 
 -- the exit of a `?`
 pub broke : {A : Type 0} {e : Refusal} (r : Result A Refusal) → IsErrAnd r (λ f. f ≡ e) → fault r ≡ Some e
@@ -113,26 +103,38 @@ broke (Err f) p = ap (λ (x : Refusal). Some x) p
 
 -- Columns with rows
 
+-- the row at a place breaks a law of islands
+abbrev pub unlawful_at : List ℕ → List Row → ℕ → Bool
+unlawful_at ks rows p = not (lawful_row ks p (row_at rows p))
+
+module _ (i : Input) (rows : ℕ) where
+  pub too_many : 4096 < length i.kinds.now → {e : Refusal} → e ≡ too_many_tokens input_layer → Some e ≡ row_count_fault i rows
+  too_many h p = ap (λ (x : Refusal). Some x) p ∙ sym (stops _ _ (when_yes _ _ (lt-ltb 4096 _ h)))
+
+  module _ (few : length i.kinds.now ≤ 4096) where
+    past_many : row_count_fault i rows ≡ first_of (when (not (eqb rows (length i.kinds.now))) column_length ∷ [])
+    past_many = passes _ _ (when_no _ _ (le-ltb 4096 _ few))
+
+    pub rows_differ : rows ≢ length i.kinds.now → {e : Refusal} → e ≡ column_length → Some e ≡ row_count_fault i rows
+    rows_differ h p = ap (λ (x : Refusal). Some x) p ∙ sym (past_many ∙ stops _ _ (when_yes _ _ (not_from_false _ (ne_eqb _ _ h))))
+
+    pub row_each : rows ≡ length i.kinds.now → None ≡ row_count_fault i rows
+    unfolding first_of
+    row_each h = sym (past_many ∙ passes _ _ (when_no _ _ (not_from_true _ (eq-eqb _ _ h))))
+
 module _ (i : Input) (rows : List Row) (n : ℕ) where
-  pub by_columns : {e : Refusal} → Some e ≡ columns_verdict i (length rows) n → Some e ≡ verdict i rows n
-  by_columns p = sym (stops _ _ (sym p))
+  pub by_row_count : {e : Refusal} → Some e ≡ row_count_fault i (length rows) → Some e ≡ verdict_with_rows i rows n
+  by_row_count p = sym (stops _ _ (sym p))
 
-  pub by_rows : None ≡ columns_verdict i (length rows) n → (o : Option Refusal) → o ≡ rows_fault i.kinds.now rows → o ≡ verdict i rows n
-  unfolding first_of
-  by_rows h None p = sym (passes _ _ (sym h) ∙ passes _ _ (sym p))
-  by_rows h (Some r) p = sym (passes _ _ (sym h) ∙ stops _ _ (sym p))
+  module _ (each : None ≡ row_count_fault i (length rows)) where
+    pub by_columns : {e : Refusal} → Some e ≡ verdict i n → Some e ≡ verdict_with_rows i rows n
+    by_columns p = sym (passes _ _ (sym each) ∙ stops _ _ (sym p))
 
-  -- accepted columns are not refused without their rows
-  pub columns_fine : verdict i rows n ≡ None → columns_verdict i (length rows) n ≡ None
-  columns_fine h = (unstopped _ _ h).0
+    pub by_rows : None ≡ verdict i n → (o : Option Refusal) → o ≡ rows_fault i.kinds.now rows → o ≡ verdict_with_rows i rows n
+    unfolding first_of
+    by_rows h None p = sym (passes _ _ (sym each) ∙ passes _ _ (sym h) ∙ passes _ _ (sym p))
+    by_rows h (Some r) p = sym (passes _ _ (sym each) ∙ passes _ _ (sym h) ∙ stops _ _ (sym p))
 
-  -- and the rows fit
-  pub rows_fine : verdict i rows n ≡ None → rows_fit i.kinds.now rows ≡ true
-  rows_fine h =
-      let same : length rows ≡ length i.kinds.now = a_row_each i (length rows) n (columns_fine h) in
-      let none : first_below (λ j. not (lawful_row i.kinds.now j (row_at rows j))) (length rows) ≡ None = not_at_place unlawful_row _ (unstopped _ _ (unstopped _ _ h).1).0 in
-      and_from _ _ (eq-eqb _ _ same) (all_below (λ j. lawful_row i.kinds.now j (row_at rows j)) (length i.kinds.now) (λ j lt. not_from (none_below _ (length rows) j none (omega arith))))
-    where
-      not_from : {b : Bool} → not b ≡ false → b ≡ true
-      not_from {true} p = refl
-      not_from {false} p = absurd (both_ways true p refl)
+  -- columns that are accepted with rows are accepted without them
+  pub columns_fine : verdict_with_rows i rows n ≡ None → verdict i n ≡ None
+  columns_fine h = (unstopped _ _ (unstopped _ _ h).1).0

@@ -5,10 +5,10 @@ use Rattle.event_log.specs.declared.event.Record.{Record}
 use Rattle.tokens.specs.declared.input.Input.{Input}
 use Rattle.tokens.specs.declared.rows.Row.{Row}
 use Rattle.event_log.specs.declared.records.Log.{Log}
-use Rattle.event_log.specs.Model.{env, New}
+use Rattle.event_log.specs.Model.{env, New, NewWithRows}
 use Rattle.grammar.specs.declared.reading.Reading.{Reading}
 use Rattle.grammar.specs.declared.reading.Unopened.{Unopened}
-use Rattle.grammar.specs.Verdict.{verdict}
+use Rattle.grammar.specs.Verdict.{verdict, verdict_with_rows}
 
 -- no tokens, and no records
 pub record Empty (l : Log) : Type 0 where
@@ -17,8 +17,13 @@ pub record Empty (l : Log) : Type 0 where
   pub count : l.count ≡ 0
   pub place : l.place ≡ 0
 
--- Accepted, the reading is at the first of these tokens, with these rows and every record of the log blank. Refused, the reading is as before,
+-- Accepted, the reading is at the first of these tokens, with every record of the log blank. Refused, the reading is as before,
 -- and the log is handed back as it was.
-pub data Opens (i : Input) (rows : List Row) (l : MutBor (List Record)) (r s : Reading) : Result (Unit {0}) Unopened → Type 0 where
-  opened : {x : Unit {0}} → verdict i rows (length l.now) ≡ None → New i rows (length l.now) s.log → Opens i rows l r s (Ok x)
-  refused : {e : Unopened} → verdict i rows (length l.now) ≡ Some e.refusal → e.records ≡ l → s ≡ r → Opens i rows l r s (Err e)
+pub data Opens (i : Input) (l : MutBor (List Record)) (r s : Reading) : Result (Unit {0}) Unopened → Type 0 where
+  opened : {x : Unit {0}} → verdict i (length l.now) ≡ None → New i (length l.now) s.log → Opens i l r s (Ok x)
+  refused : {e : Unopened} → verdict i (length l.now) ≡ Some e.refusal → e.records ≡ l → s ≡ r → Opens i l r s (Err e)
+
+-- The same with rows: accepted, the reading has them.
+pub data OpensWithRows (i : Input) (rows : List Row) (l : MutBor (List Record)) (r s : Reading) : Result (Unit {0}) Unopened → Type 0 where
+  opened : {x : Unit {0}} → verdict_with_rows i rows (length l.now) ≡ None → NewWithRows i rows (length l.now) s.log → OpensWithRows i rows l r s (Ok x)
+  refused : {e : Unopened} → verdict_with_rows i rows (length l.now) ≡ Some e.refusal → e.records ≡ l → s ≡ r → OpensWithRows i rows l r s (Err e)

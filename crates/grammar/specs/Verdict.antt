@@ -48,14 +48,11 @@ contextual_fault ks cs = at_place wrong_contextual_kind (first_below (λ i. no_c
 abbrev pub editions_fault : List ℕ → Option Refusal
 editions_fault es = at_place wrong_edition (first_below (λ i. no_edition (slice_index es i)) (length es))
 
-abbrev pub rows_fault : List ℕ → List Row → Option Refusal
-rows_fault ks rows = at_place unlawful_row (first_below (λ i. not (lawful_row ks i (row_at rows i))) (length rows))
-
--- the lengths are as they should be, with so many rows and records
-abbrev pub fits : Input → ℕ → ℕ → Bool
-fits i rows n =
+-- the lengths are as they should be, for so many records
+abbrev pub fits : Input → ℕ → Bool
+fits i n =
     (length i.contextual.now == length i.kinds.now) && (length i.editions.now == length i.kinds.now
-    && (length i.joint.now == (length i.kinds.now + 63) / 64 && (rows == length i.kinds.now && nat_le n max_records)))
+    && (length i.joint.now == (length i.kinds.now + 63) / 64 && nat_le n max_records))
 
 -- the first refusal of these, if there is one
 unfoldable pub first_of : List (Option Refusal) → Option Refusal
@@ -66,15 +63,28 @@ first_of (Some r ∷ rs) = Some r
 abbrev pub when : Bool → Refusal → Option Refusal
 when b r = cond b (Some r) None
 
--- Why these columns, with so many rows and a log of so many records, are refused, if they are. Each check goes over all tokens before the next one.
-abbrev pub columns_verdict : Input → ℕ → ℕ → Option Refusal
-columns_verdict i rows n = first_of (
+-- Why these columns, with a log of so many records, are refused, if they are. Each check goes over all tokens before the next one.
+abbrev pub verdict : Input → ℕ → Option Refusal
+verdict i n = first_of (
     when (nat_lt max_tokens (length i.kinds.now)) (too_many_tokens input_layer)
-    ∷ (when (not (fits i rows n)) column_length
+    ∷ (when (not (fits i n)) column_length
     ∷ (kinds_fault i.kinds.now
     ∷ (contextual_fault i.kinds.now i.contextual.now
     ∷ (editions_fault i.editions.now ∷ [])))))
 
--- And why they are refused with these rows: last, the first row that breaks a law of islands.
-abbrev pub verdict : Input → List Row → ℕ → Option Refusal
-verdict i rows n = first_of (columns_verdict i (length rows) n ∷ (rows_fault i.kinds.now rows ∷ []))
+-- With rows
+
+-- the first row that breaks a law of islands
+abbrev pub rows_fault : List ℕ → List Row → Option Refusal
+rows_fault ks rows = at_place unlawful_row (first_below (λ i. not (lawful_row ks i (row_at rows i))) (length rows))
+
+-- why these columns are refused for their number of tokens, or since there is not one row for each token, if they are
+abbrev pub row_count_fault : Input → ℕ → Option Refusal
+row_count_fault i rows = first_of (
+    when (nat_lt max_tokens (length i.kinds.now)) (too_many_tokens input_layer)
+    ∷ (when (not (rows == length i.kinds.now)) column_length ∷ []))
+
+-- Why these columns are refused with these rows, if they are: another number of rows than of tokens is refused as other lengths are,
+-- and the first row that breaks a law of islands last.
+abbrev pub verdict_with_rows : Input → List Row → ℕ → Option Refusal
+verdict_with_rows i rows n = first_of (row_count_fault i (length rows) ∷ (verdict i n ∷ (rows_fault i.kinds.now rows ∷ [])))

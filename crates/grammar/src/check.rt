@@ -1,7 +1,7 @@
 //! Whether columns can be read.
 
 ghost use Rattle.std.specs.Prelude.{◌≡◌, ◌≤◌, length};
-ghost use Rattle.grammar.specs.Verdict.{fault, columns_verdict, verdict, fits, no_kind, no_contextual, no_edition, kinds_fault, contextual_fault, editions_fault, rows_fault};
+ghost use Rattle.grammar.specs.Verdict.{fault, verdict, verdict_with_rows, row_count_fault, fits, no_kind, no_contextual, no_edition, kinds_fault, contextual_fault, editions_fault, rows_fault};
 
 use event_log::records::MAX_RECORDS;
 use refusals::{Layer, Refusal};
@@ -12,23 +12,14 @@ use tokens::syntax_kind::{DOLLAR, EOF, IDENT, SHEBANG, TOMBSTONE};
 /// Editions are 2015, 2018, 2021 and 2024, from 0.
 const LAST_EDITION: u8 = 3;
 
-/// Why these columns, with these rows and a log of so many records, cannot be read, if so: the first reason, at the first token that
-/// gives it.
-pub fn check(input: Input, rows: &[Row], records: usize) -> Result<(), Refusal>
-    ensures { fault result ≡ verdict input.entry rows.now records }
-{
-    check_columns(input, rows.len(), records)?;
-    check_rows(input.kinds, rows)
-}
-
-/// The same for any rows, of which there are so many.
-pub fn check_columns(input: Input, rows: usize, records: usize) -> Result<(), Refusal>
-    ensures { fault result ≡ columns_verdict input.entry rows records }
+/// Why these columns, with a log of so many records, cannot be read, if so: the first reason, at the first token that gives it.
+pub fn check(input: Input, records: usize) -> Result<(), Refusal>
+    ensures { fault result ≡ verdict input.entry records }
 {
     if input.kinds.len() > MAX_TOKENS {
         return Err(Refusal::too_many_tokens(Layer::Input));
     }
-    if !lengths_fit(input, rows, records) {
+    if !lengths_fit(input, records) {
         return Err(Refusal::column_length());
     }
     check_kinds(input.kinds)?;
@@ -36,16 +27,37 @@ pub fn check_columns(input: Input, rows: usize, records: usize) -> Result<(), Re
     check_editions(input.editions)
 }
 
-/// Every column is as long as it has to be, there are as many rows, and the log is not too long.
-fn lengths_fit(input: Input, rows: usize, records: usize) -> bool
+/// The same with rows: there has to be one for each token, and each has to be lawful at its place.
+pub fn check_with_rows(input: Input, rows: &[Row], records: usize) -> Result<(), Refusal>
+    ensures { fault result ≡ verdict_with_rows input.entry rows.now records }
+{
+    check_row_count(input, rows.len())?;
+    check(input, records)?;
+    check_rows(input.kinds, rows)
+}
+
+/// There is one row for each token, of which there are not too many.
+fn check_row_count(input: Input, rows: usize) -> Result<(), Refusal>
+    ensures { fault result ≡ row_count_fault input.entry rows }
+{
+    if input.kinds.len() > MAX_TOKENS {
+        return Err(Refusal::too_many_tokens(Layer::Input));
+    }
+    if rows != input.kinds.len() {
+        return Err(Refusal::column_length());
+    }
+    Ok(())
+}
+
+/// Every column is as long as it has to be, and the log is not too long.
+fn lengths_fit(input: Input, records: usize) -> bool
     requires { length input.kinds.now ≤ 4096 }
-    ensures { result ≡ fits input.entry rows records }
+    ensures { result ≡ fits input.entry records }
 {
     let tokens = input.kinds.len();
     input.contextual.len() == tokens
         && input.editions.len() == tokens
         && input.joint.len() == (tokens + 63) / 64
-        && rows == tokens
         && records <= MAX_RECORDS
 }
 

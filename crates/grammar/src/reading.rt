@@ -1,4 +1,4 @@
-ghost use Rattle.event_log.specs.Sound.{Within, Roomy, Short, Few, Inside, Rowed, Blanks};
+ghost use Rattle.event_log.specs.Sound.{Within, Roomy, Short, Few, Inside, Blanks};
 ghost use Rattle.grammar.specs.Calls.{Reached};
 
 use event_log::event::Record;
@@ -16,7 +16,6 @@ pub struct Reading<'a> {
     ghost short: { Short log },
     ghost few: { Few log },
     ghost inside: { Inside log },
-    ghost rowed: { Rowed log },
     ghost blanks: { Blanks log },
     // some list of calls since it was opened has led here
     ghost reached: { Reached log },

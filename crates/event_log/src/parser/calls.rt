@@ -2,7 +2,7 @@
 
 ghost use Rattle.std.specs.Prelude.{◌≡◌, ◌-◌, ◌≤◌, ◌&&◌, [], ◌∷◌, length, nat_lt};
 ghost use Rattle.event_log.specs.Sound.{Sound};
-ghost use Rattle.event_log.specs.Model.{of, faultless, Begun, New, Pushes, Begins, blanked, Since, Concludes, PutsBack};
+ghost use Rattle.event_log.specs.Model.{of, faultless, Begun, New, NewWithRows, Pushes, Begins, blanked, Since, Concludes, PutsBack};
 
 use super::Parser;
 use crate::event::Record;
@@ -12,9 +12,16 @@ use tokens::input::Input;
 use tokens::rows::Row;
 
 impl<'a> Log<'a> {
-    /// The log before the first token, with all of these records blank.
-    pub fn new(input: Input<'a>, rows: &'a [Row], records: &'a mut [Record]) -> Log<'a>
-        ensures { New input.entry rows.now (length records.old) result }
+    /// The log before the first token, with all of these records blank, and with no rows.
+    pub fn new(input: Input<'a>, records: &'a mut [Record]) -> Log<'a>
+        ensures { New input.entry (length records.old) result }
+    {
+        Log::with_rows(input, &[], records)
+    }
+
+    /// The same, with what these rows answer at each token.
+    pub fn with_rows(input: Input<'a>, rows: &'a [Row], records: &'a mut [Record]) -> Log<'a>
+        ensures { NewWithRows input.entry rows.now (length records.old) result }
     {
         let count = records.len();
         blank(records, 0, count);

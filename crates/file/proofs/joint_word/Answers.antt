@@ -18,8 +18,8 @@ pub loop-b-init : goal.loop-b-init
 unfolding word_of
 loop-b-init c = refl
 
-pub overflow-add-word : goal.overflow-add-word
-overflow-add-word c = omega (arith, longer c, word_fits (bits c) (λ b. bit_small _ _) (c.loop-b.b + 1) (omega arith))
+pub overflow_add-word : goal.overflow_add-word
+overflow_add-word c = omega (arith, longer c, word_fits (bits c) (λ b. bit_small _ _) (c.loop-b.b + 1) (omega arith))
 
 pub loop-b-preserved : goal.loop-b-preserved
 loop-b-preserved c = longer c

@@ -4,8 +4,8 @@ use Rattle.file.proofs.Columns.{written_more, front_written}
 use Rattle.file.proofs.Numbers.{number_small}
 use Rattle.file.proofs.read_editions.Goals as goal
 
-pub overflow-cast-edition : goal.overflow-cast-edition
-overflow-cast-edition c = omega (arith, number_small c.args.bytes.now (c.token-start.result + 17) 2)
+pub overflow_cast-edition : goal.overflow_cast-edition
+overflow_cast-edition c = omega (arith, number_small c.args.bytes.now (c.token_start.result + 17) 2)
 
 pub loop-i-preserved : goal.loop-i-preserved
 loop-i-preserved c = let e = written_more (edition_of c.args.bytes.now) c.loop-i.i _ c.loop-i-test.true in cc

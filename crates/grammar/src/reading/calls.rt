@@ -3,11 +3,11 @@
 ghost use Rattle.std.specs.Prelude.{◌≡◌, length};
 ghost use Rattle.event_log.specs.Model.{of, Meets, Performs};
 ghost use Rattle.event_log.specs.Steps.{bump_any};
-ghost use Rattle.grammar.specs.Verdict.{fault, verdict};
-ghost use Rattle.grammar.specs.Open.{Opens, Empty};
+ghost use Rattle.grammar.specs.Verdict.{fault, verdict, verdict_with_rows};
+ghost use Rattle.grammar.specs.Open.{Opens, OpensWithRows, Empty};
 
 use super::{Reading, Unopened};
-use crate::check::check;
+use crate::check::{check, check_with_rows};
 use event_log::event::Record;
 use event_log::parser::Parser;
 use event_log::records::{Log, Taken};
@@ -25,14 +25,21 @@ fn empty<'a>() -> Log<'a>
         joint: &[],
         editions: &[],
     };
-    Log::new(input, &[], &mut [])
+    Log::new(input, &mut [])
+}
+
+/// Why these columns cannot be read into these records, if so.
+fn refusal_of(input: Input, records: &[Record]) -> Result<(), Refusal>
+    ensures { fault result ≡ verdict input.entry (length records.now) }
+{
+    check(input, records.len())
 }
 
 /// Why these columns and rows cannot be read into these records, if so.
-fn refusal_of(input: Input, rows: &[Row], records: &[Record]) -> Result<(), Refusal>
-    ensures { fault result ≡ verdict input.entry rows.now (length records.now) }
+fn refusal_with_rows(input: Input, rows: &[Row], records: &[Record]) -> Result<(), Refusal>
+    ensures { fault result ≡ verdict_with_rows input.entry rows.now (length records.now) }
 {
-    check(input, rows, records.len())
+    check_with_rows(input, rows, records.len())
 }
 
 /// What `skip` runs.
@@ -50,19 +57,30 @@ impl<'a> Reading<'a> {
         Reading { log: empty() }
     }
 
-    /// Reads these tokens from the first one on, with what these rows answer at each, and records into this log.
-    pub fn open(
+    /// Reads these tokens from the first one on, and records into this log.
+    pub fn open(&mut self, input: Input<'a>, records: &'a mut [Record]) -> Result<(), Unopened<'a>>
+        ensures { Opens input.entry records.entry self.old self.new result }
+    {
+        if let Err(refusal) = refusal_of(input, records) {
+            return Err(Unopened { refusal, records });
+        }
+        self.log = Log::new(input, records);
+        Ok(())
+    }
+
+    /// The same, with what these rows answer at each token.
+    pub fn open_with_rows(
         &mut self,
         input: Input<'a>,
         rows: &'a [Row],
         records: &'a mut [Record],
     ) -> Result<(), Unopened<'a>>
-        ensures { Opens input.entry rows.now records.entry self.old self.new result }
+        ensures { OpensWithRows input.entry rows.now records.entry self.old self.new result }
     {
-        if let Err(refusal) = refusal_of(input, rows, records) {
+        if let Err(refusal) = refusal_with_rows(input, rows, records) {
             return Err(Unopened { refusal, records });
         }
-        self.log = Log::new(input, rows, records);
+        self.log = Log::with_rows(input, rows, records);
         Ok(())
     }
 

@@ -1,12 +1,30 @@
 use Rattle.std.proofs.Common.{◌∙◌}
 use Rattle.grammar.specs.Verdict.{fault}
-use Rattle.grammar.proofs.Verdicts.{by_columns, by_rows, broke}
+use Rattle.grammar.proofs.Verdicts.{by_tokens, by_lengths, by_kinds, by_contextual, by_editions, same_length, broke}
 use Rattle.grammar.proofs.check.check.Goals as goal
 
-pub returns-in-err-check-columns : goal.returns-in-err-check-columns
-returns-in-err-check-columns c =
-    broke _ c.from-residual.ensures.1 ∙ by_columns c.args.input c.args.rows.now c.args.records c.in-err-check-columns.ensures
+pub returns-then-input-gt-MAX_TOKENS : goal.returns-then-input-gt-MAX_TOKENS
+returns-then-input-gt-MAX_TOKENS c = by_tokens c.args.input c.args.records c.if-input-gt-MAX_TOKENS.true c.too_many_tokens.ensures
+
+pub returns-then-not-lengths_fit : goal.returns-then-not-lengths_fit
+returns-then-not-lengths_fit c =
+    by_lengths c.args.input c.args.records c.if-input-gt-MAX_TOKENS.false c.if-not-lengths_fit.ensures c.column_length.ensures
+
+pub returns-in_err-check_kinds : goal.returns-in_err-check_kinds
+returns-in_err-check_kinds c =
+    broke _ c.from_residual.ensures.1
+    ∙ by_kinds c.args.input c.args.records c.if-input-gt-MAX_TOKENS.false c.if-not-lengths_fit.ensures c.in_err-check_kinds.ensures
+
+pub check_contextual-requires : goal.check_contextual-requires
+check_contextual-requires c = same_length c.args.input c.args.records c.if-not-lengths_fit.ensures
+
+pub returns-in_err-check_contextual : goal.returns-in_err-check_contextual
+returns-in_err-check_contextual c =
+    broke _ c.from_residual-in_err-check_contextual.ensures.1
+    ∙ by_contextual c.args.input c.args.records c.if-input-gt-MAX_TOKENS.false c.if-not-lengths_fit.ensures
+    c.in_ok-check_kinds.ensures c.in_err-check_contextual.ensures
 
 pub returns : goal.returns
 returns c =
-    by_rows c.args.input c.args.rows.now c.args.records c.in-ok-check-columns.ensures (fault c.check-rows.result) c.check-rows.ensures
+    by_editions c.args.input c.args.records c.if-input-gt-MAX_TOKENS.false c.if-not-lengths_fit.ensures
+    c.in_ok-check_kinds.ensures c.in_ok-check_contextual.ensures (fault c.check_editions.result) c.check_editions.ensures

@@ -7,12 +7,12 @@ use Rattle.grammar.proofs.check.check_contextual.Goals as goal
 pub loop-place-init : goal.loop-place-init
 loop-place-init c = none_yet (λ i. no_contextual (get_or c.args.kinds.now i 0) (get_or c.args.contextual.now i 0))
 
-pub returns-then-no-contextual : goal.returns-then-no-contextual
-returns-then-no-contextual c =
-    refused_at wrong_contextual_kind (λ i. no_contextual (get_or c.args.kinds.now i 0) (get_or c.args.contextual.now i 0)) c.loop-place.place (length c.args.contextual.now) c.wrong-contextual-kind.ensures c.loop-place.invariant (sym c.if-no-contextual.ensures) c.loop-place-test.true
+pub returns-then-no_contextual : goal.returns-then-no_contextual
+returns-then-no_contextual c =
+    refused_at wrong_contextual_kind (λ i. no_contextual (get_or c.args.kinds.now i 0) (get_or c.args.contextual.now i 0)) c.loop-place.place (length c.args.contextual.now) c.wrong_contextual_kind.ensures c.loop-place.invariant (sym c.if-no_contextual.ensures) c.loop-place-test.true
 
 pub loop-place-preserved : goal.loop-place-preserved
-loop-place-preserved c = none_more (λ i. no_contextual (get_or c.args.kinds.now i 0) (get_or c.args.contextual.now i 0)) c.loop-place.place c.loop-place.invariant (sym c.if-no-contextual.ensures)
+loop-place-preserved c = none_more (λ i. no_contextual (get_or c.args.kinds.now i 0) (get_or c.args.contextual.now i 0)) c.loop-place.place c.loop-place.invariant (sym c.if-no_contextual.ensures)
 
 pub returns : goal.returns
 returns c =

@@ -7,12 +7,12 @@ use Rattle.grammar.proofs.check.check_editions.Goals as goal
 pub loop-place-init : goal.loop-place-init
 loop-place-init c = none_yet (λ i. no_edition (get_or c.args.editions.now i 0))
 
-pub returns-then-no-edition : goal.returns-then-no-edition
-returns-then-no-edition c =
-    refused_at wrong_edition (λ i. no_edition (get_or c.args.editions.now i 0)) c.loop-place.place (length c.args.editions.now) c.wrong-edition.ensures c.loop-place.invariant (sym c.if-no-edition.ensures) c.loop-place-test.true
+pub returns-then-no_edition : goal.returns-then-no_edition
+returns-then-no_edition c =
+    refused_at wrong_edition (λ i. no_edition (get_or c.args.editions.now i 0)) c.loop-place.place (length c.args.editions.now) c.wrong_edition.ensures c.loop-place.invariant (sym c.if-no_edition.ensures) c.loop-place-test.true
 
 pub loop-place-preserved : goal.loop-place-preserved
-loop-place-preserved c = none_more (λ i. no_edition (get_or c.args.editions.now i 0)) c.loop-place.place c.loop-place.invariant (sym c.if-no-edition.ensures)
+loop-place-preserved c = none_more (λ i. no_edition (get_or c.args.editions.now i 0)) c.loop-place.place c.loop-place.invariant (sym c.if-no_edition.ensures)
 
 pub returns : goal.returns
 returns c =

@@ -7,12 +7,12 @@ use Rattle.grammar.proofs.check.check_kinds.Goals as goal
 pub loop-place-init : goal.loop-place-init
 loop-place-init c = none_yet (λ i. no_kind (get_or c.args.kinds.now i 0))
 
-pub returns-then-no-kind : goal.returns-then-no-kind
-returns-then-no-kind c =
-    refused_at wrong_kind (λ i. no_kind (get_or c.args.kinds.now i 0)) c.loop-place.place (length c.args.kinds.now) c.wrong-kind.ensures c.loop-place.invariant (sym c.if-no-kind.ensures) c.loop-place-test.true
+pub returns-then-no_kind : goal.returns-then-no_kind
+returns-then-no_kind c =
+    refused_at wrong_kind (λ i. no_kind (get_or c.args.kinds.now i 0)) c.loop-place.place (length c.args.kinds.now) c.wrong_kind.ensures c.loop-place.invariant (sym c.if-no_kind.ensures) c.loop-place-test.true
 
 pub loop-place-preserved : goal.loop-place-preserved
-loop-place-preserved c = none_more (λ i. no_kind (get_or c.args.kinds.now i 0)) c.loop-place.place c.loop-place.invariant (sym c.if-no-kind.ensures)
+loop-place-preserved c = none_more (λ i. no_kind (get_or c.args.kinds.now i 0)) c.loop-place.place c.loop-place.invariant (sym c.if-no_kind.ensures)
 
 pub returns : goal.returns
 returns c =

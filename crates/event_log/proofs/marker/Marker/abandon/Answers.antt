@@ -15,7 +15,6 @@ invariant_of-p c =
       short = rw length-set p.short;
       few = p.few;
       inside = p.inside;
-      rowed = p.rowed;
       blanks = blanks_pop l.records.now c.args.self.at lt (rw c.if-at-p.true p.blanks);
     }
 

@@ -25,7 +25,6 @@ invariant_of-p c =
       short = rw length-set q.short;
       few = q.few;
       inside = q.inside;
-      rowed = q.rowed;
       blanks = blanks_set _ _ _ _ lt q.blanks;
     }
 

@@ -14,11 +14,11 @@ pub bounds-self-self : goal.bounds-self-self
 bounds-self-self c =
     let p = c.args.self.now in
     let l = p.log in
-    omega (arith, within (env l) l.place (λ e. c.if-current-eq-EOF.false (c.current.ensures ∙ e)), as_many_rows l.input.kinds.now l.rows.now p.rowed)
+    omega (arith, within (env l) l.place (λ e. c.if-current-eq-EOF.false (c.current.ensures ∙ e)), as_many_rows l.input.kinds.now l.rows.now c.requires)
 
 pub returns : goal.returns
 returns c =
     let p = c.args.self.now in
     let l = p.log in
     c.answer.ensures ∙ sym (answer_is (env l) l.place c.args.hook _ (not_at_end c.current.ensures c.if-current-eq-EOF.false)
-    (omega (arith, within (env l) l.place (λ e. c.if-current-eq-EOF.false (c.current.ensures ∙ e)), as_many_rows l.input.kinds.now l.rows.now p.rowed)))
+    (omega (arith, within (env l) l.place (λ e. c.if-current-eq-EOF.false (c.current.ensures ∙ e)), as_many_rows l.input.kinds.now l.rows.now c.requires)))

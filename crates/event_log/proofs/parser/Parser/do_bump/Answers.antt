@@ -24,7 +24,6 @@ invariant_of-self c =
       short = q.short;
       few = q.few;
       inside = pushed_within c.args.width c.in_ok-push.ensures (spelt_within (env l) l.place c.args.kind c.args.width c.requires);
-      rowed = q.rowed;
       blanks = q.blanks;
     }
 

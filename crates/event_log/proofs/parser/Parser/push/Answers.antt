@@ -18,7 +18,6 @@ invariant_of-self c =
       short = rw length-set p.short;
       few = p.few;
       inside = p.inside;
-      rowed = p.rowed;
       blanks = blanks_push l.records.now l.count c.args.entry p.blanks;
     }
 

@@ -1,7 +1,7 @@
 use Rattle.std.proofs.Common.{◌<◌, ◌≤◌, List, length, set, sym, refl, ap, ◌∙◌, arith, length-set, length-take-le}
 use Rattle.event_log.specs.declared.event.Record.{Record}
 use Rattle.event_log.specs.Forest.{blank}
-use Rattle.event_log.specs.Model.{env_of}
+use Rattle.event_log.specs.Model.{env_with_rows}
 use Rattle.event_log.proofs.Slots.{kept, blanks_set, blanks_filled, blanked_none, blanked_more, put_back}
 use Rattle.event_log.proofs.parser.Parser.put_back.Goals as goal
 
@@ -18,7 +18,6 @@ invariant_of-self c =
       short = rw length-set p.short;
       few = p.few;
       inside = p.inside;
-      rowed = p.rowed;
       blanks = blanks_set p.log.records.now p.log.count c.loop-at.at blank lt p.blanks;
     }
 
@@ -45,7 +44,6 @@ invariant_of-self-2 c =
       short = q.short;
       few = q.few;
       inside = omega (arith, c.requires.place, p.inside, ap (λ i. length i.kinds.now) c.loop-at.invariant.1);
-      rowed = q.rowed;
       blanks = blanks_filled p.log.records.now q.log.records.now c.args.began.count (omega (arith, c.requires.count, fits)) left;
     }
 
@@ -57,5 +55,5 @@ returns c =
       log = put_back p.log.records.now c.args.began.count p.log.count c.loop-at.invariant.0 (omega (arith, c.loop-at.auto.at-end)) c.requires.count fits p.blanks;
       count = sym (length-take-le c.args.began.count p.log.records.now (omega (arith, c.requires.count, fits)));
       place = refl;
-      same = λ j. env_of (c.loop-at.invariant.1 j) (c.loop-at.invariant.2 j).now (c.loop-at.invariant.3 j);
+      same = λ j. env_with_rows (c.loop-at.invariant.1 j) (c.loop-at.invariant.2 j).now (c.loop-at.invariant.3 j);
     }
