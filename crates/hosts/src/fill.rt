@@ -15,7 +15,7 @@ use tokens::rows::{Hook, Row};
 /// Asks the host every hook at each token place, and keeps what it answers. Refused as `open` would refuse the columns, or 2 where there is not one row for
 /// each token; the rows are as before then.
 pub fn fill<H: Host>(input: Input, host: &H, rows: &mut [Row]) -> Result<(), Refusal>
-    ensures { Fills (meaning host.now) input.entry rows.old rows.new result }
+    ensures { Fills (H.meaning host.now) input.entry rows.old rows.new result }
 {
     check_rows(input, rows.len())?;
     for (place, row) in rows.iter_mut().enumerate() {
@@ -37,7 +37,7 @@ fn check_rows(input: Input, rows: usize) -> Result<(), Refusal>
 
 /// What the host answers at this place.
 fn row_at<H: Host>(input: Input, host: &H, place: usize) -> Row
-    ensures meant { result ≡ row_of (meaning host.now) (columns input.entry) place }
+    ensures meant { result ≡ row_of (H.meaning host.now) (columns input.entry) place }
     ensures lawful { lawful_row (columns input.entry).kinds place result ≡ true }
 {
     Row {

@@ -19,8 +19,8 @@ mod tests;
 /// Tells the sink all that was recorded. It works with a mark for each record: refused 9 where there are fewer, and nothing is told then.
 /// Refused 10 where the sink is full, at the record reached; what was told before stays told. The marks are zero in the end.
 pub fn walk<S: Sink>(reading: &Reading, marks: &mut [u8], sink: &mut S) -> Result<(), Refusal>
-    ensures told { Walks (amounts size) (of reading.now.log).recs marks.old marks.new (heard sink.old) (heard sink.new) result }
-    ensures law { WalkLaw reading.now.log (heard sink.old) (heard sink.new) result }
+    ensures told { Walks (amounts S.size) (of reading.now.log).recs marks.old marks.new (S.heard sink.old) (S.heard sink.new) result }
+    ensures law { WalkLaw reading.now.log (S.heard sink.old) (S.heard sink.new) result }
 {
     let records = reading.records();
     process(records, marks, sink)
@@ -28,7 +28,7 @@ pub fn walk<S: Sink>(reading: &Reading, marks: &mut [u8], sink: &mut S) -> Resul
 
 /// Tells the sink these records, whatever made them; the marks and the refusals are those of `walk`.
 pub fn process<S: Sink>(records: &[Record], marks: &mut [u8], sink: &mut S) -> Result<(), Refusal>
-    ensures { Walks (amounts size) records.now marks.old marks.new (heard sink.old) (heard sink.new) result }
+    ensures { Walks (amounts S.size) records.now marks.old marks.new (S.heard sink.old) (S.heard sink.new) result }
 {
     let count = records.len();
     if !has_marks(marks, count) {
@@ -61,7 +61,7 @@ fn clear(marks: &mut [u8], count: usize)
 fn tell<S: Sink>(records: &[Record], marks: &mut [u8], sink: &mut S) -> Result<(), Refusal>
     requires marked { length records.now ≤ length marks.old }
     requires fresh { used (length records.now) marks.old ≡ unused records.now }
-    ensures told { TellsAll (amounts size) records.now (heard sink.old) (heard sink.new) result }
+    ensures told { TellsAll (amounts S.size) records.now (S.heard sink.old) (S.heard sink.new) result }
     ensures others { drop (length records.now) marks.new ≡ drop (length records.now) marks.old }
 {
     for at in 0..records.len() {
@@ -81,7 +81,7 @@ fn tell_record<S: Sink>(
 ) -> Result<(), Full>
     requires within { at < length records.now }
     requires marked { length records.now ≤ length marks.old }
-    ensures { TellsRecord (amounts size) records.now at marks.old marks.new (heard sink.old) (heard sink.new) result }
+    ensures { TellsRecord (amounts S.size) records.now at marks.old marks.new (S.heard sink.old) (S.heard sink.new) result }
 {
     match records[at] {
         Record::Start {
@@ -154,7 +154,7 @@ fn enter_chain<S: Sink>(
     requires within { at < length records.now }
     requires some { 0 < starts }
     requires chained { starts ≤ length (chain records.now at) }
-    ensures { Tells (amounts size) (enters (take starts (chain records.now at))) (heard sink.old) (heard sink.new) result }
+    ensures { Tells (amounts S.size) (enters (take starts (chain records.now at))) (S.heard sink.old) (S.heard sink.new) result }
 {
     if starts == 1 {
         return enter(records, at, sink);
@@ -185,7 +185,7 @@ fn ancestor(records: &[Record], at: usize, steps: usize) -> usize
 fn enter<S: Sink>(records: &[Record], at: usize, sink: &mut S) -> Result<(), Full>
     requires within { at < length records.now }
     requires started { 0 < length (chain records.now at) }
-    ensures { Tells (amounts size) (enters (take 1 (chain records.now at))) (heard sink.old) (heard sink.new) result }
+    ensures { Tells (amounts S.size) (enters (take 1 (chain records.now at))) (S.heard sink.old) (S.heard sink.new) result }
 {
     let Record::Start { kind, forward: _ } = records[at] else {
         return Ok(());

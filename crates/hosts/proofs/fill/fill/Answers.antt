@@ -4,8 +4,8 @@ use Rattle.hosts.specs.Fill.{row_of}
 use Rattle.hosts.proofs.Filling.{filled_none, filled_more, fill_all, fill_refused}
 use Rattle.hosts.proofs.fill.fill.Goals as goal
 
-pub returns-in-err-check-rows : goal.returns-in-err-check-rows
-returns-in-err-check-rows g c = fill_refused _ _ c.from-residual.result c.from-residual.ensures.1 c.in-err-check-rows.ensures refl
+pub returns-in_err-check_rows : goal.returns-in_err-check_rows
+returns-in_err-check_rows g c = fill_refused _ _ c.from_residual.result c.from_residual.ensures.1 c.in_err-check_rows.ensures refl
 
 pub loop-place-init : goal.loop-place-init
 loop-place-init g c = filled_none _ _ _
@@ -13,10 +13,10 @@ loop-place-init g c = filled_none _ _ _
 pub loop-place-preserved : goal.loop-place-preserved
 loop-place-preserved g c =
     let within : c.loop-place.place < length c.loop-place.rows = omega (arith, c.loop-place.auto.rows) in
-    let told : c.row-at.result ≡ row_of (g.H.Host.meaning c.args.host.now) (columns c.args.input) c.loop-place.place = search rules in
-    filled_more _ _ c.loop-place.invariant within told c.row-at.ensures.lawful
+    let told : c.row_at.result ≡ row_of (g.H.Host.meaning c.args.host.now) (columns c.args.input) c.loop-place.place = search rules in
+    filled_more _ _ c.loop-place.invariant within told c.row_at.ensures.lawful
 
 pub returns : goal.returns
 returns g c =
     let end : c.loop-place.place ≡ length c.loop-place.rows = omega (arith, c.loop-place.auto.rows, c.loop-place.auto.place-end) in
-    fill_all _ _ c.in-ok-check-rows.ensures c.loop-place.invariant end c.loop-place.auto.rows
+    fill_all _ _ c.in_ok-check_rows.ensures c.loop-place.invariant end c.loop-place.auto.rows

@@ -5,20 +5,20 @@ use Rattle.sinks.proofs.Chains.{enters_halves}
 use Rattle.sinks.proofs.Taking.{tells_then, tells_exit, tells_as}
 use Rattle.sinks.proofs.walk.+enter_chain.Goals as goal
 
-pub enter-chain-requires : goal.enter-chain-requires
-enter-chain-requires g t c κs within =
+pub enter_chain-requires : goal.enter_chain-requires
+enter_chain-requires g t c κs within =
     let ks = chain c.args.records.now c.args.at in
     let long = ap length c.ancestor-middle.ensures.along in
     let left = length-drop (c.args.starts / 2) ks in
     search rules
 
-pub returns-in-err-enter-chain : goal.returns-in-err-enter-chain
-returns-in-err-enter-chain g t c =
+pub returns-in_err-enter_chain : goal.returns-in_err-enter_chain
+returns-in_err-enter_chain g t c =
     let n = c.args.starts in
     let m = n / 2 in
     let ks = chain c.args.records.now c.args.at in
     tells_as (enters_halves ks m n (omega arith))
-    (tells_exit (enters (take m ks)) (tells_as (ap (λ xs. enters (take (n - m) xs)) c.ancestor-middle.ensures.along) c.in-err-enter-chain.ensures) _ c.from-residual.ensures.1)
+    (tells_exit (enters (take m ks)) (tells_as (ap (λ xs. enters (take (n - m) xs)) c.ancestor-middle.ensures.along) c.in_err-enter_chain.ensures) _ c.from_residual.ensures.1)
 
 pub returns : goal.returns
 returns g t c =
@@ -26,4 +26,4 @@ returns g t c =
     let m = n / 2 in
     let ks = chain c.args.records.now c.args.at in
     tells_as (enters_halves ks m n (omega arith))
-    (tells_then (tells_as (ap (λ xs. enters (take (n - m) xs)) c.ancestor-middle.ensures.along) c.in-ok-enter-chain.ensures) c.enter-chain-2.ensures)
+    (tells_then (tells_as (ap (λ xs. enters (take (n - m) xs)) c.ancestor-middle.ensures.along) c.in_ok-enter_chain.ensures) c.enter_chain-2.ensures)

@@ -4,10 +4,10 @@ use Rattle.sinks.proofs.Chains.{chain_starts, no_start, first_start, entered, no
 use Rattle.sinks.proofs.Taking.{tells_none, tells_one, tells_as}
 use Rattle.sinks.proofs.walk.enter.Goals as goal
 
-pub returns-in-default : goal.returns-in-default
-returns-in-default g c =
+pub returns-in_default : goal.returns-in_default
+returns-in_default g c =
     let rs = c.args.records.now in
-    absurd (no_start rs c.args.at blank c.requires.within c.in-default.not-Start (chain_starts rs c.args.at c.requires.within c.requires.started))
+    absurd (no_start rs c.args.at blank c.requires.within c.in_default.not-Start (chain_starts rs c.args.at c.requires.within c.requires.started))
 
 pub returns-then-kind-eq-TOMBSTONE : goal.returns-then-kind-eq-TOMBSTONE
 returns-then-kind-eq-TOMBSTONE g c =

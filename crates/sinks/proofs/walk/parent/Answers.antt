@@ -3,11 +3,11 @@ use Rattle.event_log.specs.Forest.{blank}
 use Rattle.sinks.proofs.Chains.{no_parent, parent_by, ahead_zero, ahead_past, ahead_other, ahead_start}
 use Rattle.sinks.proofs.walk.parent.Goals as goal
 
-pub returns-in-default : goal.returns-in-default
-returns-in-default c = no_parent c.args.records.now c.args.at blank c.requires c.in-default.not-Start
+pub returns-in_default : goal.returns-in_default
+returns-in_default c = no_parent c.args.records.now c.args.at blank c.requires c.in_default.not-Start
 
-pub returns-in-default-forward : goal.returns-in-default-forward
-returns-in-default-forward c = parent_by c.args.records.now c.args.at blank c.requires c.in-Start.is c.in-default-forward.is
+pub returns-in_default-forward : goal.returns-in_default-forward
+returns-in_default-forward c = parent_by c.args.records.now c.args.at blank c.requires c.in-Start.is c.in_default-forward.is
 
 pub returns-then-by-eq0 : goal.returns-then-by-eq0
 returns-then-by-eq0 c =
@@ -21,8 +21,8 @@ returns-in-Start-records c =
     ahead_start rs c.args.at c.in-Some.by blank c.if-by-eq0.false c.if-next-records.false c.in-Start-records.is
     ∙ parent_by rs c.args.at blank c.requires c.in-Start.is c.in-Some.is
 
-pub returns-in-default-records : goal.returns-in-default-records
-returns-in-default-records c =
+pub returns-in_default-records : goal.returns-in_default-records
+returns-in_default-records c =
     let rs = c.args.records.now in
-    ahead_other rs c.args.at c.in-Some.by blank c.if-next-records.false c.in-default-records.not-Start
+    ahead_other rs c.args.at c.in-Some.by blank c.if-next-records.false c.in_default-records.not-Start
     ∙ parent_by rs c.args.at blank c.requires c.in-Start.is c.in-Some.is

@@ -24,18 +24,18 @@ returns-then-marks-at-ne0 g c =
       others = refl;
     }
 
-pub use-chain-starts-requires : goal.use-chain-starts-requires
-use-chain-starts-requires g c = record {
+pub use_chain-starts-requires : goal.use_chain-starts-requires
+use_chain-starts-requires g c = record {
   within = c.requires.within;
   started = ap is_start (sym (read_at c.args.records.now c.args.at blank c.requires.within) ∙ c.in-Start.is);
   marked = c.requires.marked;
 }
 
-pub enter-chain-requires : goal.enter-chain-requires
-enter-chain-requires g c =
+pub enter_chain-requires : goal.enter_chain-requires
+enter_chain-requires g c =
     let rs = c.args.records.now in
     let some = ap length (chain_is rs c.args.at (ap is_start (sym (read_at rs c.args.at blank c.requires.within) ∙ c.in-Start.is))) in
-    record { within = c.requires.within; some = omega (arith, c.use-chain-starts.ensures.starts); chained = omega (arith, c.use-chain-starts.ensures.starts) }
+    record { within = c.requires.within; some = omega (arith, c.use_chain-starts.ensures.starts); chained = omega (arith, c.use_chain-starts.ensures.starts) }
 
 pub returns-else-marks-at-ne0 : goal.returns-else-marks-at-ne0
 returns-else-marks-at-ne0 g c =
@@ -43,12 +43,12 @@ returns-else-marks-at-ne0 g c =
     let ms = c.args.marks.now in
     let i = c.args.at in
     record {
-      told = enters (take c.use-chain-starts.result (chain rs i));
-      by_rule = start_told rs (used (length rs) ms) _ i c.use-chain-starts.result blank c.requires.within (length_used (length rs) ms c.requires.marked) c.in-Start.is
+      told = enters (take c.use_chain-starts.result (chain rs i));
+      by_rule = start_told rs (used (length rs) ms) _ i c.use_chain-starts.result blank c.requires.within (length_used (length rs) ms c.requires.marked) c.in-Start.is
           (used_at (length rs) ms i c.requires.within c.requires.marked ∙ ap not (eq-eqb _ _ c.if-marks-at-ne0.false))
-          c.use-chain-starts.ensures.marks-used c.use-chain-starts.ensures.starts;
-      tells = c.enter-chain.ensures;
-      others = c.use-chain-starts.ensures.others;
+          c.use_chain-starts.ensures.marks_used c.use_chain-starts.ensures.starts;
+      tells = c.enter_chain.ensures;
+      others = c.use_chain-starts.ensures.others;
     }
 
 pub returns-in-Finish : goal.returns-in-Finish

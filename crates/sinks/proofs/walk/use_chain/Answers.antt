@@ -13,8 +13,8 @@ bounds-marks-next c =
     let n = next_start rs c.loop-next.last c.loop-next.invariant.0 c.in-Some.ensures in
     omega (arith, start_within rs c.in-Some.next n.started, c.requires.marked, c.loop-next.auto.marks)
 
-pub overflow-add-starts : goal.overflow-add-starts
-overflow-add-starts c =
+pub overflow_add-starts : goal.overflow_add-starts
+overflow_add-starts c =
     let rs = c.args.records.now in
     let n = next_start rs c.loop-next.last c.loop-next.invariant.0 c.in-Some.ensures in
     let lt = start_within rs c.in-Some.next n.started in
@@ -49,6 +49,6 @@ returns c =
     let rs = c.args.records.now in
     let ms = c.loop-next.marks in
     let inv = c.loop-next.invariant in
-    let t = last_start rs c.loop-next.last inv.0 c.in-default.ensures in
+    let t = last_start rs c.loop-next.last inv.0 c.in_default.ensures in
     let long : length (used (length rs) ms) ≡ length rs = length_used (length rs) ms (omega (arith, c.requires.marked, c.loop-next.auto.marks)) in
-    record { starts = omega (arith, inv.2, ap length t.chained); marks-used = sym (t.marked (used (length rs) ms) long) ∙ inv.3; others = inv.4 }
+    record { starts = omega (arith, inv.2, ap length t.chained); marks_used = sym (t.marked (used (length rs) ms) long) ∙ inv.3; others = inv.4 }

@@ -7,8 +7,8 @@ use Rattle.hosts.proofs.plain.PlainHost.answer.Goals as goal
 
 pub returns : goal.returns
 returns c =
-    let same : c.answer-ahead.result ≡ plain_answer c.args.hook (columns c.args.input) c.args.place =
-    c.answer-ahead.ensures ∙ ap (plain_ahead c.args.hook) c.ahead.ensures in
+    let same : c.answer_ahead.result ≡ plain_answer c.args.hook (columns c.args.input) c.args.place =
+    c.answer_ahead.ensures ∙ ap (plain_ahead c.args.hook) c.ahead.ensures in
     record {
       meant = same;
       lawful = ap (lawful_answer c.args.input.kinds.now c.args.place c.args.hook) same ∙ plain_lawful c.args.hook (columns c.args.input) c.args.place;

@@ -7,9 +7,9 @@ use Rattle.hosts.proofs.raw.RawHost.answer.Goals as goal
 
 pub returns : goal.returns
 returns c =
-    let same : c.answer-ahead.result ≡ raw_answer c.args.-hook (columns c.args.input) c.args.place =
-    c.answer-ahead.ensures ∙ ap raw_ahead c.ahead.ensures in
+    let same : c.answer_ahead.result ≡ raw_answer c.args._hook (columns c.args.input) c.args.place =
+    c.answer_ahead.ensures ∙ ap raw_ahead c.ahead.ensures in
     record {
       meant = same;
-      lawful = ap (lawful_answer c.args.input.kinds.now c.args.place c.args.-hook) same ∙ raw_lawful c.args.-hook (columns c.args.input) c.args.place;
+      lawful = ap (lawful_answer c.args.input.kinds.now c.args.place c.args._hook) same ∙ raw_lawful c.args._hook (columns c.args.input) c.args.place;
     }

@@ -8,8 +8,8 @@ use Rattle.sinks.specs.Table.{items_of}
 use Rattle.sinks.proofs.Tables.{node_within, after_enter, after_leave, after_leave_none, after_token, after_error}
 use Rattle.sinks.proofs.table.NodeTable.node_after.Goals as goal
 
-pub offset-bounds-self-self : goal.offset-bounds-self-self
-offset-bounds-self-self c =
+pub offset_bounds-self-self : goal.offset_bounds-self-self
+offset_bounds-self-self c =
     let s = c.args.self.now in
     let h : s.node - 1 < length s.memory.now = omega (arith, node_within s c.if-self-gt0.true, c.requires) in
     search rules

@@ -6,11 +6,11 @@ use Rattle.sinks.proofs.listing.line.Line.+number.Goals as goal
 longer : (n : ℕ) → 10 ≤ n → n < 2 ^ 64 → length (decimal n) ≡ length (decimal (n / 10)) + 1
 longer n big fits = ap length (decimal_step n big fits) ∙ length_push (decimal (n / 10)) (48 + n % 10)
 
-pub overflow-cast-digit : goal.overflow-cast-digit
-overflow-cast-digit t c = omega arith
+pub overflow_cast-digit : goal.overflow_cast-digit
+overflow_cast-digit t c = omega arith
 
-pub overflow-add-digit : goal.overflow-add-digit
-overflow-add-digit t c = omega arith
+pub overflow_add-digit : goal.overflow_add-digit
+overflow_add-digit t c = omega arith
 
 pub push-requires : goal.push-requires
 push-requires t c = omega (arith, c.requires, decimal_nonempty c.args.n (omega arith))

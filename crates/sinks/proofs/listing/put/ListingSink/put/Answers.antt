@@ -22,10 +22,10 @@ module _ (l : Line) (i : ℕ) where
 long : (l : Line) (x : Item) → take l.len l.bytes ≡ line x → length (line x) ≡ l.len
 long l x text = ap length (sym text) ∙ front l l.len (omega arith)
 
-pub returns-then-not-has-room : goal.returns-then-not-has-room
-returns-then-not-has-room c =
+pub returns-then-not-has_room : goal.returns-then-not-has_room
+returns-then-not-has_room c =
     let l = c.of-line.result in
-    let none = leb-false l.len (room_of c.args.self.now) c.if-not-has-room.ensures in
+    let none = leb-false l.len (room_of c.args.self.now) c.if-not-has_room.ensures in
     let size = long l c.args.item c.of-line.ensures.text in
     record { takes = full (omega (arith, size, none)) refl; writes = kept (omega (arith, size, none)) refl refl }
 
@@ -41,14 +41,14 @@ bounds-self-self c =
     let p = c.args.self.now in
     let l = c.of-line.result in
     let i = c.loop-i.i in
-    let below = room p l i (leb-true l.len (room_of p) c.if-not-has-room.ensures) c.loop-i-test.true in
+    let below = room p l i (leb-true l.len (room_of p) c.if-not-has_room.ensures) c.loop-i-test.true in
     let same = length_over p.buffer.now p.len (take i l.bytes) (omega arith) in
     omega (arith, below, front l i (omega arith), c.loop-i.invariant.0, ap length c.loop-i.invariant.1, same)
 
-pub invariant-of-self : goal.invariant-of-self
-invariant-of-self c =
+pub invariant_of-self : goal.invariant_of-self
+invariant_of-self c =
     let p = c.loop-i.self in
-    (within_set p.buffer.now p.len _ _ (omega arith) p.within, (listed_set p.buffer.now p.len _ _ (omega arith) p.listed, tt))
+    record { within = within_set p.buffer.now p.len _ _ (omega arith) p.within; listed = listed_set p.buffer.now p.len _ _ (omega arith) p.listed }
 
 pub loop-i-preserved : goal.loop-i-preserved
 loop-i-preserved c =
@@ -57,7 +57,7 @@ loop-i-preserved c =
     let i = c.loop-i.i in
     let b = get_or l.bytes i 0 in
     let at : c.loop-i.self.len + i ≡ p.len + length (take i l.bytes) = omega (arith, front l i (omega arith), c.loop-i.invariant.0) in
-    let below = room p l i (leb-true l.len (room_of p) c.if-not-has-room.ensures) c.loop-i-test.true in (
+    let below = room p l i (leb-true l.len (room_of p) c.if-not-has_room.ensures) c.loop-i-test.true in (
       c.loop-i.invariant.0,
       (λ j. set (c.loop-i.invariant.1 j) (at j) b)
           ∙ over_more p.buffer.now p.len (take i l.bytes) b below
@@ -92,14 +92,14 @@ ended p q l x i text small test inv last =
       listed = listed_after xs ys p.len (q.len + l.len) x small fits new up p.listed;
     }
 
-pub invariant-of-self-2 : goal.invariant-of-self-2
-invariant-of-self-2 c =
+pub invariant_of-self-2 : goal.invariant_of-self-2
+invariant_of-self-2 c =
     let p = c.args.self.now in
-    let e = ended p c.loop-i.self c.of-line.result c.args.item c.loop-i.i c.of-line.ensures.text c.of-line.ensures.small c.if-not-has-room.ensures c.loop-i.invariant (omega (arith, c.loop-i.auto.i-end)) in
-    (omega (arith, p.within, e.fits, e.up, e.long), (e.listed, tt))
+    let e = ended p c.loop-i.self c.of-line.result c.args.item c.loop-i.i c.of-line.ensures.text c.of-line.ensures.small c.if-not-has_room.ensures c.loop-i.invariant (omega (arith, c.loop-i.auto.i-end)) in
+    record { within = omega (arith, p.within, e.fits, e.up, e.long); listed = e.listed }
 
 pub returns : goal.returns
 returns c =
     let p = c.args.self.now in
-    let e = ended p c.loop-i.self c.of-line.result c.args.item c.loop-i.i c.of-line.ensures.text c.of-line.ensures.small c.if-not-has-room.ensures c.loop-i.invariant (omega (arith, c.loop-i.auto.i-end)) in
+    let e = ended p c.loop-i.self c.of-line.result c.args.item c.loop-i.i c.of-line.ensures.text c.of-line.ensures.small c.if-not-has_room.ensures c.loop-i.invariant (omega (arith, c.loop-i.auto.i-end)) in
     record { takes = took e.fits e.told (omega (arith, e.up, e.long)); writes = wrote e.fits e.new e.up }

@@ -14,11 +14,11 @@ returns-then-self c = record { takes = full (omega (arith, c.if-self.true)) refl
 room : (s : NodeTable) → (s.len ≡ length s.memory.now → ⊥) → s.len < length s.memory.now
 room s h = omega (arith, s.within)
 
-pub invariant-of-self : goal.invariant-of-self
-invariant-of-self c =
+pub invariant_of-self : goal.invariant_of-self
+invariant_of-self c =
     let s = c.args.self.now in
     let r = room s c.if-self.false in
-    (within_written s c.args.item r, (kept_written s c.args.item r, (inside_written s c.args.item r c.node-after-node.ensures, tt)))
+    record { within = within_written s c.args.item r; kept = kept_written s c.args.item r; inside = inside_written s c.args.item r c.node_after-node.ensures }
 
 pub returns : goal.returns
 returns c =
