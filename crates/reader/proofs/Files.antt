@@ -1,5 +1,5 @@
 -- A file that was read, opened, gone through and told.
-use Rattle.std.proofs.Common.{◌≡◌, ℕ, ◌-◌, ◌<◌, ◌≤◌, ◌⊎◌, List, map, length, take, drop, IsErrAnd, None, Ok, Err, Result, sym, refl, ap, ◌∙◌, subst₂, inl, inr, arith, take_at, Bor}
+use Rattle.std.proofs.Common.{◌≡◌, ℕ, ◌-◌, ◌<◌, ◌≤◌, ◌⊎◌, List, map, length, take, drop, IsErrAnd, None, Ok, Err, Result, sym, refl, ap, ◌∙◌, subst₂, inl, inr, arith, take_at, MutBor}
 use Rattle.std.specs.List.{range_with_len}
 use Rattle.std.proofs.lemmas.List.FromFn.{length-map-range_with_len}
 use Rattle.std.proofs.lemmas.Bool.{cases_lt}
@@ -54,12 +54,12 @@ holds bytes n w ls ds ws fs i e a b c d p q r s = record {
 }
 
 -- columns that were not opened
-pub not_opened : {size : Item → ℕ} {bytes : List ℕ} {s : Heard} {n : ℕ} {e : Unopened} {l : Bor (List Record)} {r q : Reading} (i : Input) → length bytes ≤ max_bytes
+pub not_opened : {size : Item → ℕ} {bytes : List ℕ} {s : Heard} {n : ℕ} {e : Unopened} {l : MutBor (List Record)} {r q : Reading} (i : Input) → length bytes ≤ max_bytes
     → read_from bytes ≡ Ok n → HoldsFile bytes n i → length l.now ≡ records → Opens i l r q (Err e) → Lists size bytes s s (Err e.refusal)
 not_opened i le o h k (refused v m z) = unopened i le o h (ap (verdict i) (sym k) ∙ v) refl
 
 -- the exit of a `?`, where the log is full
-pub not_taken : {size : Item → ℕ} {bytes : List ℕ} {s : Heard} {n : ℕ} {x : Unit {0}} {l : Bor (List Record)} {r q : Reading} {m : Log} {e : Refusal} (i : Input) → length bytes ≤ max_bytes
+pub not_taken : {size : Item → ℕ} {bytes : List ℕ} {s : Heard} {n : ℕ} {x : Unit {0}} {l : MutBor (List Record)} {r q : Reading} {m : Log} {e : Refusal} (i : Input) → length bytes ≤ max_bytes
     → read_from bytes ≡ Ok n → HoldsFile bytes n i → length l.now ≡ records → Opens i l r q (Ok x) → TakesAll q.log m (Err e)
     → (o : Result (Unit {0}) Refusal) → IsErrAnd o (λ f. f ≡ e) → Lists size bytes s s o
 not_taken i le c h k (opened v new) (stuck p q) (Ok x) z = absurd z
@@ -80,7 +80,7 @@ last_place i k p v e z le = go (cases_lt p.place (length i.kinds.now))
     go (inr ge) = omega (arith, tokens)
 
 -- A reading that was opened, gone through and told.
-pub all_listed : {size : Item → ℕ} {bytes : List ℕ} {s t : Heard} {n : ℕ} {x y : Unit {0}} {marks after : List ℕ} {l : Bor (List Record)} {r q : Reading} (i : Input) (p : Reading)
+pub all_listed : {size : Item → ℕ} {bytes : List ℕ} {s t : Heard} {n : ℕ} {x y : Unit {0}} {marks after : List ℕ} {l : MutBor (List Record)} {r q : Reading} (i : Input) (p : Reading)
     {o : Result (Unit {0}) Refusal} → length bytes ≤ max_bytes → read_from bytes ≡ Ok n → HoldsFile bytes n i → length l.now ≡ records → length marks ≡ records
     → Opens i l r q (Ok x) → TakesAll q.log p.log (Ok y) → Walks size (of p.log).recs marks after s t o → Lists size bytes s t o
 all_listed {size} {bytes} {s} {t} {n} {marks = marks} {after} {q = q} i p le c h k m (opened v new) d w = go w

@@ -43,7 +43,7 @@ fn take_all(reading: &mut Reading) -> Result<(), Refusal>
 
 /// Tells a sink what the file holds.
 pub fn list<S: Sink>(bytes: &[u8], sink: &mut S) -> Result<(), Refusal>
-    ensures { Lists (amounts size) bytes.now (heard sink.old) (heard sink.new) result }
+    ensures { Lists (amounts S.size) bytes.now (S.heard sink.old) (S.heard sink.new) result }
 {
     if too_long(bytes) {
         return Err(Refusal::too_many_tokens(Layer::File));

@@ -11,8 +11,8 @@ none = record { item = Enter 0; node = 0 }
 pub loop-entry-preserved : goal.loop-entry-preserved
 loop-entry-preserved c = (
   lines_more (string_bytes c.loop-entry.text) _ c.loop-entry.depth _ c.args.entries.now c.loop-entry.entry-index none c.loop-entry-test.true
-      c.in-ok-push-line.ensures c.next-depth-depth.ensures ∙ c.loop-entry.invariant.0,
-  omega (arith, c.next-depth-depth.ensures, depth_low c.loop-entry.depth (get_or c.args.entries.now c.loop-entry.entry-index none).item, c.loop-entry.invariant.1),
+      c.in_ok-push_line.ensures c.next_depth-depth.ensures ∙ c.loop-entry.invariant.0,
+  omega (arith, c.next_depth-depth.ensures, depth_low c.loop-entry.depth (get_or c.args.entries.now c.loop-entry.entry-index none).item, c.loop-entry.invariant.1),
 )
 
 pub returns : goal.returns
