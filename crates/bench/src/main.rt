@@ -1,5 +1,6 @@
 //! Tells paths of several lengths, each one chain of forward parents, to a node table. It prints how many records and items there are; with
 //! the argument `time` also how long the telling takes for each record.
+#![tactic(auto)]
 
 use crate::path::path;
 use anyhow::anyhow;

@@ -1,7 +1,7 @@
 -- Which tokens are next.
-use Rattle.std.proofs.Common.{◌≡◌, ℕ, ◌+◌, ◌<◌, ◌≤◌, Bool, true, false, cond, not, ◌&&◌, eqb, length, sym, refl, ap, ◌∙◌, ⊎_elim, arith}
+use Rattle.std.proofs.Common.{◌≡◌, ℕ, ◌+◌, ◌<◌, ◌≤◌, Bool, true, false, not, ◌&&◌, eqb, length, sym, refl, ap, ◌∙◌, ⊎_elim, arith}
 use Rattle.std.proofs.lemmas.List.{get_or_past}
-use Rattle.std.proofs.lemmas.Bool.{and_left, and_right, and_from, and_parts, or_left, or_right, or_cases, ne_eqb, eq-eqb, eqb-true, eqb-false, not-true, cases_lt, not_from_false, not_from_true, cond-false, cond_both}
+use Rattle.std.proofs.lemmas.Bool.{and_left, and_right, and_from, and_parts, or_left, or_right, or_cases, ne_eqb, eq-eqb, eqb-true, eqb-false, not-true, cases_lt, not_from_false, not_from_true, cond_both}
 use Rattle.tokens.specs.Kinds.{EOF}
 use Rattle.tokens.specs.Parts.{parts, first, second, third, width}
 use Rattle.event_log.specs.Program.{Env, kind_at, contextual_at, follows, ahead, present, readable, spells}

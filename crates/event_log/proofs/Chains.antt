@@ -22,7 +22,7 @@ use Rattle.event_log.specs.Marks.Closed.{closed, unclosed}
 use Rattle.event_log.specs.Marks.Settled.{completed, uncompleted, abandoned, passed}
 use Rattle.event_log.specs.Marks.Finished.{completed as finished_so, passed as passed_on}
 use Rattle.event_log.specs.Marks.Winds.{wound, refused as unwound}
-use Rattle.event_log.specs.Steps.{Step, start, node as node_of, complete}
+use Rattle.event_log.specs.Steps.{start, node as node_of, complete}
 use Rattle.event_log.proofs.Sizes.{length_flats}
 use Rattle.event_log.proofs.Due.{due_ok, due_no, completed_ok}
 use Rattle.event_log.proofs.Growth.{still, grown_as, records}

@@ -1,5 +1,5 @@
 -- A whole call: it begins, does what its program comes to, and is concluded.
-use Rattle.std.proofs.Common.{◌≡◌, ℕ, ◌+◌, ◌-◌, ◌≤◌, true, ◌&&◌, List, [], ◌++◌, length, take, replicate, Result, sym, ap, ◌∙◌, arith, length-append, take-append-drop, take_at}
+use Rattle.std.proofs.Common.{◌≡◌, ℕ, ◌+◌, ◌-◌, ◌≤◌, ◌&&◌, List, [], ◌++◌, length, take, replicate, Result, sym, ap, ◌∙◌, arith, length-append, take-append-drop, take_at}
 use lib.ListN.{length-replicate}
 use Rattle.std.proofs.lemmas.List.{take-take}
 use Rattle.event_log.specs.declared.event.Record.{Record}
@@ -16,7 +16,6 @@ use Rattle.event_log.specs.Model.{State, of, env, filled, faultless, Grown, from
 use Rattle.event_log.specs.Model.Does.{did, refused}
 use Rattle.event_log.specs.Model.Concludes.{accepted, taken_back}
 use Rattle.event_log.specs.Model.Performs.{performed, refused as not_performed}
-use Rattle.event_log.proofs.Growth.{records}
 use Rattle.event_log.proofs.Slots.{count_is, blanks_are, all_blank_filled}
 
 -- A new log is sound, where there are not too many records and tokens.

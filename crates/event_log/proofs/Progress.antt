@@ -1,5 +1,5 @@
 -- Which programs take a token whenever they are accepted: a rule for each form.
-use Rattle.std.proofs.Common.{◌≡◌, ℕ, zero, suc, ◌+◌, ◌<◌, ◌≤◌, Bool, true, false, cond, eqb, length, Some, None, Ok, Option, sym, refl, ap, ◌∙◌, not-suc-le-zero, add-zero, arith}
+use Rattle.std.proofs.Common.{◌≡◌, ℕ, zero, suc, ◌+◌, ◌<◌, Bool, true, false, cond, eqb, length, Some, None, Ok, Option, sym, refl, ap, ◌∙◌, not-suc-le-zero, arith}
 use Rattle.std.proofs.lemmas.Bool.{both_ways, eqb-true}
 use Rattle.tokens.specs.declared.rows.Hook.{Hook}
 use Rattle.tokens.specs.declared.rows.Hook.TheVariants.{Expr, BlockExpr, Literal, ExprBlockContents, Meta, Pattern, PatternSingle}
@@ -7,12 +7,11 @@ use Rattle.tokens.specs.declared.rows.Answer.{Answer}
 use Rattle.tokens.specs.Kinds.{TOMBSTONE, EOF}
 use Rattle.tokens.specs.Islands.{must_take, rows_fit, hook_number}
 use Rattle.tokens.proofs.Laws.{takes_some}
-use Rattle.event_log.specs.Forest.{Node, Forest, ◌<>◌, wide, wides, wide_node}
-use Rattle.event_log.specs.Forest.Tree.{token, error, whole, gone}
+use Rattle.event_log.specs.Forest.{Forest, wide, wides, wide_node}
 use Rattle.event_log.specs.Forest.Node.{node}
-use Rattle.event_log.specs.Forest.Forest.{nil, cons}
+use Rattle.event_log.specs.Forest.Forest.{nil}
 use Rattle.event_log.specs.Program.{Env, Prog, Held, kind_at, size, run, ◌>>◌}
-use Rattle.event_log.specs.Program.Prog.{give, ◌>>=◌, here, take, fault, chain}
+use Rattle.event_log.specs.Program.Prog.{give, ◌>>=◌, here, take}
 use Rattle.event_log.specs.Program.Wraps.{end}
 use Rattle.event_log.specs.Program.Out.{ok}
 use Rattle.event_log.specs.Model.{State, Does}
@@ -20,7 +19,7 @@ use Rattle.event_log.specs.Model.Does.{did}
 use Rattle.event_log.specs.Steps.{Step, when, start, complete, bump_any, err}
 use Rattle.event_log.specs.Island.{island_fault, answer_at, bumps, island_error, island_inside, island_node, island}
 use Rattle.event_log.proofs.Sizes.{wides_append}
-use Rattle.event_log.proofs.Inversion.{give_ok, here_ok, if_ok, take_ok, fault_ok, bind_ok, end_ok, chain_some, chain_none}
+use Rattle.event_log.proofs.Inversion.{give_ok, here_ok, take_ok, fault_ok, bind_ok, end_ok, chain_some, chain_none}
 use Rattle.event_log.proofs.Moves.{Moves}
 use Rattle.event_log.proofs.Islands.{answer_lawful}
 

@@ -26,7 +26,7 @@ use Rattle.event_log.proofs.Fuel.{settled_ends, wind_more}
 use Rattle.event_log.proofs.Unrolling.{wind_go, wind_stop}
 use Rattle.event_log.proofs.Sizes.{length_flat_node, length_flats}
 use Rattle.event_log.proofs.Due.{due_ok, due_no, completed_ok}
-use Rattle.event_log.proofs.Growth.{faultless_append, and_assoc, still, grown_then, records}
+use Rattle.event_log.proofs.Growth.{faultless_append, and_assoc, grown_then, records}
 use Rattle.event_log.proofs.Kit.{full_no, inside, opens, begun, ended, refuses, ends, ends_no, gives, then, fails}
 
 -- What precedes a node

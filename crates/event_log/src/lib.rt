@@ -1,4 +1,5 @@
 //! The log that a parser leaves: token columns in, records out.
+#![tactic(auto)]
 
 pub mod event;
 pub mod item;

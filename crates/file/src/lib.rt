@@ -1,4 +1,5 @@
 //! Reads a token file, bit by bit, into lent columns.
+#![tactic(auto)]
 
 ghost use Rattle.std.specs.Prelude.{◌≡◌, ◌+◌, ◌*◌, ◌^◌, ◌<◌, ◌≤◌, length, IfOk};
 ghost use Rattle.file.specs.TokenFile.{bit_at, number_at, token_at, kind_of, contextual_of, joint_of, edition_of, tokens_of, words_for, written, word_of, joint_word, JointBits, columns, Reads};

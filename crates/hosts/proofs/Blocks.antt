@@ -1,8 +1,7 @@
 -- A block at the first of some tokens.
-use Rattle.std.proofs.Common.{◌≡◌, ℕ, ◌-◌, Bool, true, false, cond, List, [], ◌∷◌, length, get_or, take, drop, sym, refl, ap, ◌∙◌, arith}
+use Rattle.std.proofs.Common.{◌≡◌, ℕ, ◌-◌, Bool, cond, List, [], ◌∷◌, length, get_or, take, drop, sym, ap, ◌∙◌, arith}
 use Rattle.std.proofs.lemmas.Bool.{eq-eqb}
 use Rattle.std.proofs.lemmas.List.{take_rest}
-use Rattle.tokens.specs.declared.rows.Answer.{Answer}
 use Rattle.tokens.specs.Kinds.{L_CURLY}
 use Rattle.tokens.specs.Islands.{bare_fault}
 use Rattle.hosts.specs.Plain.{block, plain_block}

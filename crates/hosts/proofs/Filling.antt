@@ -1,7 +1,7 @@
 -- Filling rows: why it is refused, and what the rows hold as the loop goes on.
-use Rattle.std.proofs.Common.{◌≡◌, ℕ, ◌+◌, ◌<◌, ◌≤◌, Bool, true, false, cond, not, eqb, ltb, ◌≢◌, ◌⊎◌, List, [], ◌∷◌, length, get_or, set, IsErrAnd, Some, None, Ok, Err, Option, Result, sym, refl, ap, ◌∙◌, subst, inl, inr, arith, below_more}
+use Rattle.std.proofs.Common.{◌≡◌, ℕ, ◌+◌, ◌<◌, ◌≤◌, Bool, true, false, cond, not, eqb, ltb, ◌≢◌, ◌⊎◌, List, [], ◌∷◌, length, get_or, set, IsErrAnd, Some, None, Ok, Err, Option, Result, sym, refl, ap, ◌∙◌, inl, inr, arith, below_more}
 use Rattle.std.proofs.lemmas.Bool.{le-ltb, lt-ltb, eq-eqb, ne_eqb, eqb-true, not-false, not_from_true, not_from_false, and_from, cond-true, cond-false}
-use Rattle.std.proofs.lemmas.List.{get_or-set_same, get_or-set_other, length-set}
+use Rattle.std.proofs.lemmas.List.{get_or-set_same, get_or-set_other}
 use Rattle.std.proofs.lemmas.List.FromFn.{fill_by_all}
 use Rattle.refusals.specs.declared.Refusal.{Refusal}
 use Rattle.refusals.specs.declared.Layer.TheVariants.{Input as input_layer}
@@ -15,7 +15,7 @@ use Rattle.tokens.specs.Islands.{answer_of, every_hook, lawful_answer, lawful_ro
 use Rattle.grammar.specs.Verdict.{first_of, when, verdict}
 use Rattle.grammar.proofs.Verdicts.{by_tokens}
 use Rattle.hosts.specs.Host.{Columns, columns}
-use Rattle.hosts.specs.Fill.{fill_verdict, row_of, rows_of, LawfulRows, Fills}
+use Rattle.hosts.specs.Fill.{fill_verdict, row_of, Fills}
 use Rattle.hosts.specs.Fill.Fills.{filled, refused}
 
 three : (b d : Bool) (r s : Refusal) (v : Option Refusal) → first_of (when b r ∷ (when d s ∷ (v ∷ []))) ≡ cond b (Some r) (cond d (Some s) v)

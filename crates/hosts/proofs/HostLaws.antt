@@ -1,5 +1,5 @@
 -- The raw and the plain host are lawful.
-use Rattle.std.proofs.Common.{◌≡◌, ℕ, ◌+◌, ◌<◌, ◌≤◌, Bool, true, false, cond, eqb, ltb, List, [], ◌∷◌, length, get_or, drop, Some, None, refl, arith}
+use Rattle.std.proofs.Common.{◌≡◌, ℕ, ◌+◌, ◌<◌, Bool, true, false, cond, eqb, ltb, List, [], ◌∷◌, length, get_or, drop, Some, refl, arith}
 use Rattle.std.proofs.lemmas.Bool.{both_ways, or_from, ltb-true, cond_both}
 use Rattle.tokens.specs.declared.rows.Hook.{Hook}
 use Rattle.tokens.specs.declared.rows.Hook.TheVariants.{Expr, BlockExpr, Literal, ExprBlockContents, Meta, Pattern, PatternSingle}
@@ -9,10 +9,10 @@ use Rattle.tokens.specs.Islands.{is_literal, is_node, must_take, lawful_answer}
 use Rattle.hosts.specs.declared.run.Stop.TheVariants.{Closer, Mark}
 use Rattle.hosts.specs.Host.{Columns}
 use Rattle.hosts.specs.Runs.{stops_at}
-use Rattle.tokens.specs.Islands.{nothing, bare_fault}
+use Rattle.tokens.specs.Islands.{bare_fault}
 use Rattle.hosts.specs.Answers.{one_token}
 use Rattle.hosts.specs.Raw.{raw_answer}
-use Rattle.hosts.specs.Plain.{literal_or, path_expr, token_pattern, contents, block, plain_block, plain_ahead, plain_answer}
+use Rattle.hosts.specs.Plain.{token_pattern, contents, block, plain_ahead, plain_answer}
 use Rattle.hosts.proofs.Runs.{run_within}
 use Rattle.hosts.proofs.Lawful.{lawful_ahead, node_lawful, fault_lawful, nothing_lawful, contents_lawful, tree_lawful, empty_free}
 

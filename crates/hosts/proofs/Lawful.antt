@@ -1,15 +1,14 @@
 -- Lawful answers: a node of some tokens, a fault alone, a run.
-use Rattle.std.proofs.Common.{◌≡◌, ℕ, ◌+◌, ◌-◌, ◌<◌, ◌≤◌, Bool, true, false, cond, not, ◌&&◌, ◌||◌, eqb, ltb, leb, ◌⊎◌, List, [], ◌∷◌, length, get_or, drop, Some, None, sym, refl, ap, ◌∙◌, inl, inr, add-zero, arith}
+use Rattle.std.proofs.Common.{◌≡◌, ℕ, ◌-◌, ◌<◌, ◌≤◌, Bool, true, false, ◌&&◌, eqb, ltb, leb, ◌⊎◌, List, length, get_or, drop, Some, None, sym, refl, ap, ◌∙◌, inl, inr, add-zero, arith}
 use native.Mathlib.Nat.{sub-zero}
-use Rattle.std.proofs.lemmas.Bool.{le-leb, lt-ltb, eqb-true, eqb-false, and_from, or_left, or_right, or_parts, or_cases, both_ways, not_from_false, cond_both}
+use Rattle.std.proofs.lemmas.Bool.{le-leb, lt-ltb, eqb-true, eqb-false, and_from, or_left, or_right, not_from_false, cond_both}
 use Rattle.std.proofs.lemmas.List.{length-drop, get_or-drop, get_or_past, get_or_default}
 use Rattle.std.proofs.lemmas.Bool.Decides.{nat_tests}
 use Rattle.tokens.specs.declared.rows.Hook.{Hook}
 use Rattle.tokens.specs.declared.rows.Hook.TheVariants.{Expr, BlockExpr, Literal, ExprBlockContents, Meta, Pattern, PatternSingle}
 use Rattle.tokens.specs.declared.rows.Answer.{Answer}
 use Rattle.tokens.specs.Kinds.{EOF}
-use Rattle.tokens.specs.Islands.{exists_from, names_node, is_node, has_node, may_lack_fault, may_answer, must_take, takes_enough, lawful_answer}
-use Rattle.hosts.specs.declared.run.Run.{Run}
+use Rattle.tokens.specs.Islands.{names_node, is_node, has_node, may_lack_fault, may_answer, must_take, takes_enough, lawful_answer}
 use Rattle.hosts.specs.declared.run.Stop.TheVariants.{Mark}
 use Rattle.hosts.specs.Runs.{stops_at, run_length, run_of}
 use Rattle.tokens.specs.Islands.{nothing, bare_fault}

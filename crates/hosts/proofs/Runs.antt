@@ -3,7 +3,6 @@ use Rattle.std.proofs.Common.{◌≡◌, ℕ, zero, suc, ◌+◌, ◌-◌, ◌<�
 use Rattle.std.proofs.lemmas.Bool.{and_left, and_right, and_from, and_parts, eq-eqb, ne_eqb}
 use Rattle.grammar.specs.Verdict.{first_below}
 use Rattle.grammar.proofs.Firsts.{none_yet, none_more, found}
-use Rattle.hosts.specs.declared.run.Run.{Run}
 use Rattle.hosts.specs.Runs.{opens_bracket, closes_bracket, depth_behind, depth, ends_before, run_length, run_of}
 
 pub depth_none : (ks : List ℕ) → depth ks 0 ≡ 0

@@ -1,5 +1,5 @@
 -- Answers that hosts give.
-use Rattle.std.specs.Prelude.{ℕ, false, cond, List, Some, ◌==◌}
+use Rattle.std.specs.Prelude.{ℕ, false, cond, Some, ◌==◌}
 use Rattle.tokens.specs.declared.rows.Answer.{Answer}
 use Rattle.tokens.specs.Islands.{bare_fault}
 use Rattle.hosts.specs.declared.run.Run.{Run}

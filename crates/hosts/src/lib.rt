@@ -1,4 +1,5 @@
 //! Hosts: what lies in expressions, patterns and attributes, for each token place.
+#![tactic(auto)]
 
 mod answers;
 pub mod fill;

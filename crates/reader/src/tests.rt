@@ -91,7 +91,7 @@ fn longest(rt: HostRuntime) {
     assert_eq!(rt; list(&bytes, &mut listing), Ok(()));
     assert_eq!(rt; listing.bytes().len(), 6144);
     for line in listing.bytes().chunks(6) {
-        assert_eq!(rt; line, b"= 3 1\n");
+        assert_eq!(rt; line, b"= 3 1\n".as_slice());
     }
 }
 

@@ -1,4 +1,5 @@
 //! Why a call gave up. Every layer refuses by these.
+#![tactic(auto)]
 
 ghost use Rattle.std.specs.Prelude.{◌≡◌};
 ghost use Rattle.refusals.specs.Refusals.{refusal, too_many_tokens, column_length, wrong_kind, wrong_contextual_kind, wrong_edition, unlawful_row, log_full, marks_short, sink_full, file_short, file_long, column_short};

@@ -1,5 +1,5 @@
 -- Bits of one word.
-use Rattle.std.proofs.Common.{◌≡◌, ℕ, zero, suc, ◌+◌, ◌-◌, ◌*◌, ◌/◌, ◌%◌, ◌^◌, ◌<◌, ◌≤◌, Bool, false, ◌||◌, eqb, ◌⊎◌, sym, refl, ap, ◌∙◌, inl, inr, lt_of_lt_of_le, mod-lt, one-mul, arith, lit<, pow_pos, pow_mono, pow-add}
+use Rattle.std.proofs.Common.{◌≡◌, ℕ, zero, suc, ◌+◌, ◌-◌, ◌/◌, ◌%◌, ◌^◌, ◌<◌, ◌≤◌, Bool, false, ◌||◌, eqb, sym, refl, ap, ◌∙◌, inl, inr, lt_of_lt_of_le, mod-lt, one-mul, arith, lit<, pow_pos, pow_mono, pow-add}
 use native.Mathlib.Nat.{div-eq_of_lt, div_self, zero-div}
 use lib.Bits.{bit_or, or_shr, or_mod, shifted_even}
 use lib.Pow.{pow-lt, shl-shr}

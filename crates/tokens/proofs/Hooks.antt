@@ -1,7 +1,6 @@
 -- A row is lawful, as a loop over the hooks finds.
 use Rattle.std.proofs.Common.{◌≡◌, ℕ, ◌+◌, ◌<◌, ◌≤◌, Bool, true, false, ◌&&◌, List, length, get_or, drop, sym, ap, ◌∙◌}
 use Rattle.std.proofs.lemmas.List.{at_drop_more, at_drop_all}
-use Rattle.tokens.specs.declared.rows.Hook.{Hook}
 use Rattle.tokens.specs.declared.rows.Hook.TheVariants.{Expr}
 use Rattle.tokens.specs.declared.rows.Answer.{Answer}
 use Rattle.tokens.specs.declared.rows.Row.{Row}

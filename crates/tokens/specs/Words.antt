@@ -1,5 +1,5 @@
 -- Kinds as bits of words: kind k is bit k modulo 64 of word k divided by 64.
-use Rattle.std.specs.Prelude.{ℕ, ◌+◌, ◌/◌, ◌%◌, ◌^◌, ◌<◌, Bool, true, false, ◌&&◌, List, [], ◌∷◌, set, ◌==◌, bit_or, nat_le, slice_index, slice_set}
+use Rattle.std.specs.Prelude.{ℕ, ◌+◌, ◌/◌, ◌%◌, ◌^◌, ◌<◌, Bool, true, false, ◌&&◌, List, [], ◌∷◌, ◌==◌, bit_or, nat_le, slice_index, slice_set}
 use Rattle.tokens.specs.Kinds.{SHEBANG}
 
 -- the bit of this kind is set

@@ -1,4 +1,5 @@
 //! Tokens: their kinds, and the lent columns that hold them.
+#![tactic(auto)]
 
 pub mod composite;
 pub mod input;

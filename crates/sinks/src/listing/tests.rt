@@ -69,9 +69,9 @@ fn several(rt: HostRuntime) -> Result<(), Fail> {
     listing.put(enter(263))?;
     listing.put(token(10, 2))?;
     assert_eq!(rt; listing.put(enter(0)), Err(Full));
-    assert_eq!(rt; listing.bytes(), b"+ 263\n= 10 2\n");
+    assert_eq!(rt; listing.bytes(), b"+ 263\n= 10 2\n".as_slice());
     listing.put(Item::Leave)?;
-    assert_eq!(rt; listing.bytes(), b"+ 263\n= 10 2\n-\n");
-    assert_eq!(rt; &buffer[0..16], b"+ 263\n= 10 2\n-\n.");
+    assert_eq!(rt; listing.bytes(), b"+ 263\n= 10 2\n-\n".as_slice());
+    assert_eq!(rt; &buffer[0..16], b"+ 263\n= 10 2\n-\n.".as_slice());
     Ok(())
 }

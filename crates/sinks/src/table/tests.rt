@@ -52,7 +52,7 @@ fn memory(rt: HostRuntime) -> Result<(), Fail> {
     };
     let mut memory = [mark; 3];
     let mut table = NodeTable::new(&mut memory[0..2]);
-    assert_eq!(rt; table.entries(), &[]);
+    assert_eq!(rt; table.entries(), [].as_slice());
     table.put(TOKEN)?;
     table.put(ENTER)?;
     assert_eq!(rt; table.put(Item::Leave), Err(Full));

@@ -48,6 +48,23 @@ fn told(
     buffer: &mut [u8],
     answer: Result<(), Parts>,
     lines: &[u8],
+) -> Result<(), Fail> {
+    let mut marks = [7; 16];
+    let mut listing = Listing::new(buffer);
+    assert!(rt; records.len() <= 16);
+    clear(&mut marks, records.len());
+    assert_eq!(rt; parts(tell(records, &mut marks, &mut listing)), answer);
+    assert_eq!(rt; listing.bytes(), lines);
+    Ok(())
+}
+
+/// The same by `process`, which clears the marks itself and leaves them zero.
+fn processed(
+    rt: &impl Abort,
+    records: &[Record],
+    buffer: &mut [u8],
+    answer: Result<(), Parts>,
+    lines: &[u8],
 ) {
     let mut marks = [7; 16];
     let mut listing = Listing::new(buffer);
@@ -55,30 +72,31 @@ fn told(
     assert_eq!(rt; listing.bytes(), lines);
 }
 
-fn tells(rt: &impl Abort, records: &[Record], lines: &[u8]) {
-    told(rt, records, &mut [b'.'; 64], Ok(()), lines);
+fn tells(rt: &impl Abort, records: &[Record], lines: &[u8]) -> Result<(), Fail> {
+    processed(rt, records, &mut [b'.'; 64], Ok(()), lines);
+    told(rt, records, &mut [b'.'; 64], Ok(()), lines)
 }
 
 #[test]
-fn single_records(rt: HostRuntime) {
+fn single_records(rt: HostRuntime) -> Result<(), Fail> {
     let error = Record::Error {
         number: 4,
         kind: 153,
     };
-    tells(&rt, &[], b"");
-    tells(&rt, &[TOKEN, error], b"= 3 1\n! 4 153\n");
-    tells(&rt, &[start(7), TOKEN, FINISH], b"+ 7\n= 3 1\n-\n");
+    tells(&rt, &[], b"")?;
+    tells(&rt, &[TOKEN, error], b"= 3 1\n! 4 153\n")?;
+    tells(&rt, &[start(7), TOKEN, FINISH], b"+ 7\n= 3 1\n-\n")?;
     // an abandoned node in front of another
-    tells(&rt, &[Record::BLANK, start(7), FINISH], b"+ 7\n-\n");
+    tells(&rt, &[Record::BLANK, start(7), FINISH], b"+ 7\n-\n")
 }
 
 #[test]
-fn chains(rt: HostRuntime) {
+fn chains(rt: HostRuntime) -> Result<(), Fail> {
     tells(
         &rt,
         &[preceded(7, 3), TOKEN, FINISH, start(8), TOKEN, FINISH],
         b"+ 8\n+ 7\n= 3 1\n-\n= 3 1\n-\n",
-    );
+    )?;
     let three = [
         preceded(7, 2),
         FINISH,
@@ -87,7 +105,7 @@ fn chains(rt: HostRuntime) {
         start(9),
         FINISH,
     ];
-    tells(&rt, &three, b"+ 9\n+ 8\n+ 7\n-\n-\n-\n");
+    tells(&rt, &three, b"+ 9\n+ 8\n+ 7\n-\n-\n-\n")?;
     let five = [
         preceded(7, 2),
         FINISH,
@@ -100,7 +118,7 @@ fn chains(rt: HostRuntime) {
         start(11),
         FINISH,
     ];
-    tells(&rt, &five, b"+ 11\n+ 10\n+ 9\n+ 8\n+ 7\n-\n-\n-\n-\n-\n");
+    tells(&rt, &five, b"+ 11\n+ 10\n+ 9\n+ 8\n+ 7\n-\n-\n-\n-\n-\n")?;
     // the middle one was abandoned
     tells(
         &rt,
@@ -113,20 +131,21 @@ fn chains(rt: HostRuntime) {
             FINISH,
         ],
         b"+ 9\n+ 7\n-\n= 3 1\n-\n",
-    );
+    )
 }
 
 /// An offset of 0, to a token, to a finish and past the end: each ends the chain.
 #[test]
-fn chain_ends(rt: HostRuntime) {
+fn chain_ends(rt: HostRuntime) -> Result<(), Fail> {
     for by in [0, 1, 2, 3, 65535] {
-        tells(&rt, &[preceded(7, by), TOKEN, FINISH], b"+ 7\n= 3 1\n-\n");
+        tells(&rt, &[preceded(7, by), TOKEN, FINISH], b"+ 7\n= 3 1\n-\n")?;
     }
+    Ok(())
 }
 
 /// A buffer that ends within a line keeps the lines before it, and the refusal names the record that tells it.
 #[test]
-fn full_at_records(rt: HostRuntime) {
+fn full_at_records(rt: HostRuntime) -> Result<(), Fail> {
     let records = [preceded(7, 3), TOKEN, FINISH, start(8), TOKEN, FINISH];
     let lines = b"+ 8\n+ 7\n= 3 1\n-\n= 3 1\n-\n";
     for (at, from, to) in [
@@ -141,15 +160,24 @@ fn full_at_records(rt: HostRuntime) {
         for room in from..to {
             let mut buffer = [b'.'; 24];
             assert!(rt; room <= buffer.len());
-            told(
+            processed(
                 &rt,
                 &records,
                 &mut buffer[0..room],
                 full(at),
                 &lines[0..from],
             );
+            let mut buffer = [b'.'; 24];
+            told(
+                &rt,
+                &records,
+                &mut buffer[0..room],
+                full(at),
+                &lines[0..from],
+            )?;
         }
     }
+    Ok(())
 }
 
 /// What a reading tells after `skip_all`.
@@ -209,7 +237,7 @@ fn walked_twice(rt: HostRuntime) -> Result<(), Fail> {
     }
     assert_eq!(rt;
         listing.bytes(),
-        b"= 3 1\n= 10 1\n= 153 1\n= 3 1\n= 10 1\n= 153 1\n"
+        b"= 3 1\n= 10 1\n= 153 1\n= 3 1\n= 10 1\n= 153 1\n".as_slice()
     );
     Ok(())
 }

@@ -1,7 +1,6 @@
 use Rattle.std.proofs.Common.{◌≡◌, length, sym, arith}
 use Rattle.std.proofs.lemmas.Bool.{not_from_true, not_from_false}
 use Rattle.refusals.specs.Refusals.{unlawful_row}
-use Rattle.grammar.specs.Verdict.{at_place}
 use Rattle.grammar.proofs.Firsts.{none_yet, none_more, refused_at, none_at}
 use Rattle.grammar.proofs.Verdicts.{unlawful_at}
 use Rattle.grammar.proofs.check.check_rows.Goals as goal

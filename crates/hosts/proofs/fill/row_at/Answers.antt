@@ -1,7 +1,5 @@
 use Rattle.std.proofs.Common.{◌≡◌, true}
-use Rattle.tokens.specs.declared.rows.Hook.{Hook}
 use Rattle.tokens.specs.declared.rows.Hook.TheVariants.{Expr, BlockExpr, Literal, ExprBlockContents, Meta, Pattern, PatternSingle}
-use Rattle.tokens.specs.declared.rows.Row.{Row}
 use Rattle.tokens.specs.Islands.{answer_of, lawful_answer}
 use Rattle.hosts.proofs.Filling.{row_lawful}
 use Rattle.hosts.proofs.fill.row_at.Goals as goal

@@ -1,4 +1,4 @@
-use Rattle.std.proofs.Common.{◌<◌, ◌≤◌, length, sym, refl, ◌∙◌, arith, length-set, take-take}
+use Rattle.std.proofs.Common.{◌<◌, length, sym, refl, ◌∙◌, arith, length-set, take-take}
 use lib.Seq.{take-set-le}
 use Rattle.event_log.proofs.Slots.{kept, blanks_pop}
 use Rattle.event_log.proofs.Nodes.{counted, taken_back, left_there}

@@ -1,4 +1,3 @@
-use Rattle.std.proofs.Common.{arith}
 use Rattle.event_log.specs.Island.{island}
 use Rattle.event_log.specs.Model.{env}
 use Rattle.event_log.proofs.Kit.{looks, opens, exited}
