@@ -7,6 +7,7 @@ use refusals::{Layer, Refusal};
 use std::process::Abort;
 use std::test::Fail;
 use tokens::input::Input;
+use tokens::rows::{Answer, Row};
 use tokens::syntax_kind::{DOLLAR, DOT, EOF, IDENT, SEMICOLON, SHEBANG, STRUCT_KW, TOMBSTONE};
 
 /// Opens these tokens, or says why not.
@@ -239,4 +240,46 @@ fn reopening(rt: HostRuntime) -> Result<(), Fail> {
     has_taken(&rt, &reading, &[DOT]);
     assert_eq!(rt; second, [token(DOT), Record::BLANK]);
     Ok(())
+}
+
+/// A row with this answer to the first hook, and a fault alone to the others.
+fn row(expr: Answer) -> Row {
+    Row {
+        expr,
+        block_expr: Answer::BARE_FAULT,
+        literal: Answer::BARE_FAULT,
+        expr_block_contents: Answer::BARE_FAULT,
+        meta: Answer::BARE_FAULT,
+        pattern: Answer::BARE_FAULT,
+        pattern_single: Answer::BARE_FAULT,
+    }
+}
+
+/// What opening two tokens with these rows comes to.
+fn open_rows(rows: &[Row]) -> Result<(), Refusal> {
+    let input = Input {
+        kinds: &[DOT, DOT],
+        contextual: &[EOF, EOF],
+        joint: &[0],
+        editions: &[0, 0],
+    };
+    match Reading::new().open_with_rows(input, rows, &mut [Record::Finish; 3]) {
+        Ok(()) => Ok(()),
+        Err(unopened) => Err(unopened.refusal),
+    }
+}
+
+#[test]
+fn rows(rt: HostRuntime) {
+    let fine = row(Answer::BARE_FAULT);
+    // nothing at all needs a fault, but for a literal
+    let faultless = row(Answer::NOTHING);
+    assert_eq!(rt; open_rows(&[fine, fine]), Ok(()));
+    assert_eq!(rt; open_rows(&[fine]), Err(Refusal::column_length()));
+    assert_eq!(rt; open_rows(&[fine; 3]), Err(Refusal::column_length()));
+    assert_eq!(rt;
+        open_rows(&[fine, faultless]),
+        Err(Refusal::unlawful_row(1))
+    );
+    assert_eq!(rt; open_rows(&[faultless; 2]), Err(Refusal::unlawful_row(0)));
 }
