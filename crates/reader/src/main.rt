@@ -4,13 +4,13 @@ ghost use Rattle.std.specs.Prelude.{◌≤◌, length, IfOk};
 
 use crate::list::{MAX_BYTES, RECORDS, list};
 use crate::tree::tree;
-use anyhow::anyhow;
 use refusals::Refusal;
 use sinks::listing::Listing;
 use sinks::table::NodeTable;
 use sinks::table::entry::Entry;
 use std::fs::File;
 use std::io::{Read, Write};
+use std::process::ExitCode;
 use std::{env, io};
 
 mod kind_names;
@@ -75,32 +75,38 @@ fn read_input(rt: &HostRuntime, path: Option<String>, buffer: &mut [u8]) -> io::
     }
 }
 
-fn refuse(rt: &HostRuntime, refusal: Refusal) -> anyhow::Result<()> {
+fn refuse(rt: &HostRuntime, refusal: Refusal) -> anyhow::Result<ExitCode> {
     let number = refusal.number();
     let place = refusal.place();
     println!(rt; "refused {number} {place}")?;
-    Err(anyhow!("refused"))
+    Ok(ExitCode::FAILURE)
 }
 
-fn print_listing(rt: &HostRuntime, file: &[u8]) -> anyhow::Result<()> {
+fn print_listing(rt: &HostRuntime, file: &[u8]) -> anyhow::Result<ExitCode> {
     let mut buffer = [0; LISTING];
     let mut listing = Listing::new(&mut buffer);
     match list(file, &mut listing) {
-        Ok(()) => Ok(rt.stdout().write_all(listing.bytes())?),
+        Ok(()) => {
+            rt.stdout().write_all(listing.bytes())?;
+            Ok(ExitCode::SUCCESS)
+        }
         Err(refusal) => refuse(rt, refusal),
     }
 }
 
-fn print_tree(rt: &HostRuntime, file: &[u8]) -> anyhow::Result<()> {
+fn print_tree(rt: &HostRuntime, file: &[u8]) -> anyhow::Result<ExitCode> {
     let mut memory = vec![in rt.alloc(); Entry::NONE; RECORDS]?;
     let mut table = NodeTable::new(memory.as_mut_slice());
     match list(file, &mut table) {
-        Ok(()) => Ok(rt.print(tree(rt.alloc(), table.entries())?)?),
+        Ok(()) => {
+            rt.print(tree(rt.alloc(), table.entries())?)?;
+            Ok(ExitCode::SUCCESS)
+        }
         Err(refusal) => refuse(rt, refusal),
     }
 }
 
-fn run(rt: &HostRuntime) -> anyhow::Result<()> {
+fn run(rt: &HostRuntime) -> anyhow::Result<ExitCode> {
     let Arguments { form, path } = read_arguments(rt)?;
     // One byte more than the longest file tells that a file is too long.
     let mut bytes = [0; MAX_BYTES + 1];
@@ -108,7 +114,7 @@ fn run(rt: &HostRuntime) -> anyhow::Result<()> {
         Ok(len) => len,
         Err(error) => {
             eprintln!(rt; "reader: {error}")?;
-            return Err(anyhow!("unread"));
+            return Ok(ExitCode::FAILURE);
         }
     };
     match form {
@@ -117,6 +123,6 @@ fn run(rt: &HostRuntime) -> anyhow::Result<()> {
     }
 }
 
-fn main(rt: HostRuntime) -> anyhow::Result<()> {
+fn main(rt: HostRuntime) -> anyhow::Result<ExitCode> {
     run(&rt)
 }
