@@ -1,4 +1,5 @@
 //! Reads a token file and prints its listing, or its tree, or the one line of a refusal.
+#![tactic(auto)]
 
 ghost use Rattle.std.specs.Prelude.{◌≤◌, length, IfOk};
 

@@ -1,12 +1,12 @@
 -- A node table: the node that follows each item, and the entry that is written for it.
-use Rattle.std.proofs.Common.{◌≡◌, ℕ, ◌+◌, ◌-◌, ◌<◌, ◌≤◌, List, [], ◌∷◌, ◌++◌, length, get_or, take, set, sym, refl, ap, ◌∙◌, arith}
+use Rattle.std.proofs.Common.{◌≡◌, ℕ, ◌+◌, ◌-◌, ◌<◌, ◌≤◌, List, [], ◌∷◌, ◌++◌, length, get_or, take, set, sym, ap, ◌∙◌, arith}
 use Rattle.std.proofs.lemmas.List.{length-map, length-take-le, length-set, take_more_set, get_or-take, get_or-map, map-append}
 use Rattle.event_log.specs.declared.item.Item.{Item}
 use Rattle.event_log.specs.declared.item.Item.TheVariants.{Enter, Leave, Token, Error}
 use Rattle.sinks.specs.declared.table.NodeTable.{NodeTable}
 use Rattle.sinks.specs.declared.table.entry.Entry.{Entry}
 use Rattle.sinks.specs.Nodes.{items_in, nodes_in, innermost, open_after, around}
-use Rattle.sinks.specs.Table.{items_of, next_entry}
+use Rattle.sinks.specs.Table.{items_of}
 use Rattle.sinks.proofs.Nodes.{open_push, around_push, closes, closes_none}
 
 module _ (s : NodeTable) where

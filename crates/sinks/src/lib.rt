@@ -1,4 +1,5 @@
 //! Where a log is told to: the sinks that take its items, and the walk that tells them.
+#![tactic(auto)]
 
 pub mod listing;
 pub mod sink;

@@ -1,5 +1,4 @@
 use Rattle.event_log.specs.Forest.{blank}
-use Rattle.sinks.specs.Walk.{at}
 use Rattle.sinks.proofs.Chains.{chain_starts, no_start, first_start, entered, not_entered}
 use Rattle.sinks.proofs.Taking.{tells_none, tells_one, tells_as}
 use Rattle.sinks.proofs.walk.enter.Goals as goal

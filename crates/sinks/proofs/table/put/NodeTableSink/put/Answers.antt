@@ -1,7 +1,6 @@
 use Rattle.std.proofs.Common.{◌≡◌, ℕ, ◌<◌, length, set, refl, ap, arith}
 use Rattle.std.proofs.lemmas.List.{length-set}
 use Rattle.sinks.specs.declared.table.NodeTable.{NodeTable}
-use Rattle.sinks.specs.declared.table.entry.Entry.{Entry}
 use Rattle.sinks.specs.Sink.Takes.{took, full}
 use Rattle.sinks.specs.Table.Keeps.{wrote, kept}
 use Rattle.sinks.proofs.Tables.{items_written, kept_written, inside_written, within_written}
