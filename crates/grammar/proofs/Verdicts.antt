@@ -1,16 +1,17 @@
 -- The verdict on columns, check by check.
 use Rattle.std.proofs.Common.{◌≡◌, ℕ, ◌+◌, ◌/◌, ◌<◌, ◌≤◌, Bool, true, false, not, ◌&&◌, eqb, leb, List, [], ◌∷◌, length, get_or, ◌≢◌, IsErrAnd, Some, None, Ok, Err, Option, Result, sym, refl, ap, ◌∙◌, arith}
-use Rattle.std.proofs.lemmas.Bool.{ne_eqb, eq-eqb, both_ways, and_parts, lt-ltb, le-ltb, ltb-false, leb-true, eqb-true, not_from_true, not_from_false}
+use Rattle.std.proofs.lemmas.Bool.{and_from, ne_eqb, eq-eqb, both_ways, and_parts, lt-ltb, le-ltb, ltb-false, leb-true, eqb-true, not_from_true, not_from_false}
 use Rattle.std.proofs.lemmas.List.{get_or_default}
 use Rattle.tokens.specs.declared.input.Input.{Input}
 use Rattle.tokens.specs.declared.rows.Row.{Row}
 use Rattle.refusals.specs.declared.Refusal.{Refusal}
 use Rattle.refusals.specs.declared.Layer.TheVariants.{Input as input_layer}
-use Rattle.refusals.specs.Refusals.{too_many_tokens, column_length, wrong_kind}
+use Rattle.refusals.specs.Refusals.{too_many_tokens, column_length, wrong_kind, unlawful_row}
 use Rattle.tokens.specs.Kinds.{EOF}
-use Rattle.tokens.specs.Islands.{lawful_row, row_at}
+use Rattle.tokens.specs.Islands.{lawful_row, row_at, rows_fit}
+use Rattle.tokens.proofs.Laws.{all_below}
 use Rattle.grammar.proofs.Firsts.{none_below}
-use Rattle.grammar.specs.Verdict.{fault, first_of, at_place, when, fits, no_kind, kinds_fault, contextual_fault, editions_fault, rows_fault, row_count_fault, verdict, verdict_with_rows}
+use Rattle.grammar.specs.Verdict.{fault, first_of, first_below, at_place, when, fits, no_kind, kinds_fault, contextual_fault, editions_fault, rows_fault, row_count_fault, verdict, verdict_with_rows}
 
 passes : (o : Option Refusal) (rs : List (Option Refusal)) → o ≡ None → first_of (o ∷ rs) ≡ first_of rs
 unfolding first_of
@@ -138,3 +139,17 @@ module _ (i : Input) (rows : List Row) (n : ℕ) where
   -- columns that are accepted with rows are accepted without them
   pub columns_fine : verdict_with_rows i rows n ≡ None → verdict i n ≡ None
   columns_fine h = (unstopped _ _ (unstopped _ _ h).1).0
+
+  -- and the rows fit
+  pub rows_fine : verdict_with_rows i rows n ≡ None → rows_fit i.kinds.now rows ≡ true
+  rows_fine h =
+      let few : length i.kinds.now ≤ 4096 = few_tokens i n (columns_fine h) in
+      let as_many : when (not (eqb (length rows) (length i.kinds.now))) column_length ≡ None = (unstopped _ _ (sym (past_many i (length rows) few) ∙ (unstopped _ _ h).0)).0 in
+      let same : eqb (length rows) (length i.kinds.now) ≡ true = not_false _ (not_when _ _ as_many) in
+      let none : first_below (unlawful_at i.kinds.now rows) (length rows) ≡ None = not_at_place unlawful_row _ (unstopped _ _ (unstopped _ _ (unstopped _ _ h).1).1).0 in
+      and_from _ _ same (all_below (λ j. lawful_row i.kinds.now j (row_at rows j)) (length i.kinds.now)
+      (λ j lt. not_false _ (none_below (unlawful_at i.kinds.now rows) (length rows) j none (omega (arith, eqb-true _ _ same)))))
+    where
+      not_false : (b : Bool) → not b ≡ false → b ≡ true
+      not_false true p = refl
+      not_false false p = absurd (both_ways true p refl)

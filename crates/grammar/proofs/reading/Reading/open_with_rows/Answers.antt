@@ -1,7 +1,7 @@
 use Rattle.std.proofs.Common.{length, sym, refl}
 use Rattle.event_log.proofs.Performing.{new_with_rows_sound}
 use Rattle.grammar.specs.Open.OpensWithRows.{opened, refused}
-use Rattle.grammar.proofs.Verdicts.{few_tokens, few_records, columns_fine}
+use Rattle.grammar.proofs.Verdicts.{few_tokens, few_records, columns_fine, rows_fine}
 use Rattle.grammar.proofs.Readings.{reached_none, fields}
 use Rattle.grammar.proofs.reading.Reading.open_with_rows.Goals as goal
 
@@ -16,4 +16,6 @@ invariant_of-self c =
     fields (new_with_rows_sound h (few_records c.args.input n v) (few_tokens c.args.input n v)) (reached_none c.with_rows-self.result h.count h.place)
 
 pub returns : goal.returns
-returns c = opened (sym c.in_default.ensures) c.with_rows-self.ensures
+returns c =
+    let v = sym c.in_default.ensures in
+    opened v (rows_fine c.args.input c.args.rows.now (length c.args.records.now) v) c.with_rows-self.ensures
