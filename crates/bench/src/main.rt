@@ -3,12 +3,12 @@
 #![tactic(auto)]
 
 use crate::path::path;
-use anyhow::anyhow;
 use event_log::event::Record;
 use refusals::Refusal;
 use sinks::table::NodeTable;
 use sinks::table::entry::Entry;
 use sinks::walk::process;
+use std::process::ExitCode;
 use std::time::Instant;
 use std::{env, io};
 
@@ -27,11 +27,11 @@ fn tell(records: &[Record], marks: &mut [u8], memory: &mut [Entry]) -> Result<us
     Ok(table.entries().len())
 }
 
-fn refuse(rt: &HostRuntime, refusal: Refusal) -> anyhow::Result<()> {
+fn refuse(rt: &HostRuntime, refusal: Refusal) -> anyhow::Result<ExitCode> {
     let number = refusal.number();
     let place = refusal.place();
     println!(rt; "refused {number} {place}")?;
-    Err(anyhow!("refused"))
+    Ok(ExitCode::FAILURE)
 }
 
 /// Prints the tenths of a nanosecond that a record takes.
@@ -40,7 +40,7 @@ fn time(
     records: &[Record],
     marks: &mut [u8],
     memory: &mut [Entry],
-) -> anyhow::Result<()> {
+) -> anyhow::Result<ExitCode> {
     let count = records.len().max(1);
     let turns = (RECORDS / count).max(1);
     let start = Instant::now(rt)?;
@@ -54,11 +54,11 @@ fn time(
     let whole = tenths / 10;
     let part = tenths % 10;
     println!(rt; "    {whole}.{part} ns for each record")?;
-    Ok(())
+    Ok(ExitCode::SUCCESS)
 }
 
 /// The longest path of at most so many raw tokens: one for the first `a`, and three for each `::a` behind it.
-fn bench(rt: &HostRuntime, length: usize, timed: bool) -> anyhow::Result<()> {
+fn bench(rt: &HostRuntime, length: usize, timed: bool) -> anyhow::Result<ExitCode> {
     let more = length.saturating_sub(1) / 3;
     let tokens = 1 + 3 * more;
     let records = path(rt.alloc(), more)?;
@@ -70,9 +70,9 @@ fn bench(rt: &HostRuntime, length: usize, timed: bool) -> anyhow::Result<()> {
         Err(refusal) => return refuse(rt, refusal),
     }
     if timed {
-        time(rt, &records, &mut marks, &mut memory)?;
+        return time(rt, &records, &mut marks, &mut memory);
     }
-    Ok(())
+    Ok(ExitCode::SUCCESS)
 }
 
 fn is_timed(rt: &HostRuntime) -> io::Result<bool> {
@@ -82,10 +82,13 @@ fn is_timed(rt: &HostRuntime) -> io::Result<bool> {
     }
 }
 
-fn main(rt: HostRuntime) -> anyhow::Result<()> {
+fn main(rt: HostRuntime) -> anyhow::Result<ExitCode> {
     let timed = is_timed(&rt)?;
     for length in LENGTHS {
-        bench(&rt, length, timed)?;
+        let code = bench(&rt, length, timed)?;
+        if code != ExitCode::SUCCESS {
+            return Ok(code);
+        }
     }
-    Ok(())
+    Ok(ExitCode::SUCCESS)
 }

@@ -8,6 +8,8 @@ pub mod Ahead
 pub mod Sizes
 pub mod Induction
 pub mod Spelling
+-- the same numbers of records, by the shape of a forest
+pub mod Counts
 -- what an accepted run went through
 pub mod Inversion
 -- more turns of a loop change nothing; a loop is its first turn, and then the loop

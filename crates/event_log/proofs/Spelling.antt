@@ -2,7 +2,7 @@
 use Rattle.std.proofs.Common.{◌≡◌, ℕ, ◌+◌, ◌<◌, ◌≤◌, true, cond, ◌&&◌, ltb, leb, ◌⊎◌, List, [], ◌∷◌, ◌++◌, length, sym, refl, ap, ◌∙◌, subst, inl, inr, append-nil, add-zero, add_assoc, zero-add, arith, le-ltb, lt-ltb, le-leb}
 use borrow.Author.Tests.{lt-leb}
 use Rattle.std.proofs.lemmas.Bool.{cases_lt}
-use Rattle.event_log.specs.Forest.{Tree, Node, Forest, ◌<>◌, count_tree, counts, wide, wide_node, wides}
+use Rattle.event_log.specs.Forest.{Tree, Node, Forest, ◌<>◌, flat, flats, wide, wide_node, wides}
 use Rattle.event_log.specs.Forest.Tree.{whole, gone}
 use Rattle.event_log.specs.Forest.Node.{node, wrap}
 use Rattle.event_log.specs.Forest.Forest.{nil, cons}
@@ -13,7 +13,7 @@ use Rattle.event_log.specs.declared.item.Item.TheVariants.{Enter as enter, Leave
 use Rattle.event_log.specs.Told.{told_tree, told_node, told, KindsNode}
 use Rattle.event_log.specs.Spelling.{Spelled, width, holding, Fine}
 use Rattle.event_log.proofs.Telling.{told_append, kinds_append}
-use Rattle.event_log.proofs.Sizes.{size_append, wides_append, size_one, wides_one, count_left_more, size_of_node, size_of_wrap}
+use Rattle.event_log.proofs.Sizes.{size_append, wides_append, size_one, wides_one, length_left_in, size_of_node, size_of_wrap}
 use Rattle.event_log.proofs.Ahead.{spelt_within}
 use Rattle.event_log.proofs.Induction.{Kept, OnOk, keep}
 
@@ -49,7 +49,7 @@ pub record FineNode (e : Env) (c i : ℕ) (n : Node) : Type 0 where
   pub fits : c ≤ e.room → c + size_node n ≤ e.room
 
 pub fine_nothing : (e : Env) (c i : ℕ) → Fine e c i nil
-unfolding told wides width counts
+unfolding told wides width flats
 fine_nothing e c i = record { spelled = tt; measured = refl; named = tt; inside = λ h. omega arith; fits = λ h. omega arith }
 
 pub fine_append : (e : Env) (c i : ℕ) (f g : Forest) → Fine e c i f → Fine e (c + size f) (i + wides f) g → Fine e c i (f <> g)
@@ -64,7 +64,7 @@ fine_append e c i f g h k =
     }
 
 fine_token : (e : Env) (c i k w : ℕ) → spells e i k w ≡ true → c < e.room → Fine e c i (cons (Tree.token k w) nil)
-unfolding told_tree wide count_tree width
+unfolding told_tree wide flat width
 fine_token e c i k w s r = record {
   spelled = (s, tt);
   measured = omega arith;
@@ -74,7 +74,7 @@ fine_token e c i k w s r = record {
 }
 
 fine_error : (e : Env) (c i n k : ℕ) → c < e.room → Fine e c i (cons (Tree.error n k) nil)
-unfolding told_tree wide count_tree width
+unfolding told_tree wide flat width
 fine_error e c i n k r = record {
   spelled = tt;
   measured = refl;
@@ -84,18 +84,18 @@ fine_error e c i n k r = record {
 }
 
 fine_gone : (e : Env) (c i : ℕ) (f : Forest) → c < e.room → Fine e (c + 1) i f → Fine e c i (cons (gone f) nil)
-unfolding told_tree wide count_tree
+unfolding told_tree wide flat
 fine_gone e c i f r h =
     record {
       spelled = spelled_append e i (told f) [] h.spelled tt;
       measured = rw (append-nil (told f), wides_one (gone f)) h.measured;
       named = (h.named, tt);
       inside = λ l. rw (wides_one (gone f)) (h.inside l);
-      fits = λ l. rw (size_one (gone f)) (let k = h.fits (omega arith) in omega (arith, count_left_more (size f)));
+      fits = λ l. rw (size_one (gone f)) (let k = h.fits (omega arith) in omega (arith, length_left_in (flats f)));
     }
 
 fine_whole : (e : Env) (c i : ℕ) (n : Node) → FineNode e c i n → Fine e c i (cons (whole n) nil)
-unfolding told_tree wide count_tree
+unfolding told_tree wide flat
 fine_whole e c i n h = record {
   spelled = spelled_append e i (told_node n) [] h.spelled tt;
   measured = rw (append-nil (told_node n), wides_one (whole n)) h.measured;

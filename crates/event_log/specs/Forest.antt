@@ -1,5 +1,5 @@
 -- What the records of a log stand for: trees, some of whose nodes were abandoned.
-use Rattle.std.specs.Prelude.{ℕ, zero, suc, ◌+◌, List, [], ◌∷◌, ◌++◌, length, Some, None, Option}
+use Rattle.std.specs.Prelude.{ℕ, ◌+◌, List, [], ◌∷◌, ◌++◌, length, Some, None, Option}
 use Rattle.tokens.specs.Kinds.{TOMBSTONE}
 use Rattle.event_log.specs.declared.event.Record.{Record}
 use Rattle.event_log.specs.declared.event.Record.TheVariants.{Start, Finish, Token, Error}
@@ -78,24 +78,3 @@ unfoldable mutual
   pub wides : Forest → ℕ
   wides nil = 0
   wides (cons t f) = wide t + wides f
-
--- How many records there are, with that of an abandoned start, which is there only before others.
-unfoldable pub count_left : ℕ → ℕ
-count_left zero = zero
-count_left (suc n) = suc (suc n)
-
-unfoldable mutual
-  -- how many records it has: the length of `flat`, without making them
-  pub count_tree : Tree → ℕ
-  count_tree (token k w) = 1
-  count_tree (error n k) = 1
-  count_tree (whole n) = count_node n
-  count_tree (gone f) = count_left (counts f)
-
-  pub count_node : Node → ℕ
-  count_node (node k f) = 2 + counts f
-  count_node (wrap n k f) = count_node n + (2 + counts f)
-
-  pub counts : Forest → ℕ
-  counts nil = 0
-  counts (cons t f) = count_tree t + counts f

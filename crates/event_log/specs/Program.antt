@@ -6,12 +6,12 @@ use Rattle.tokens.specs.declared.rows.Row.{Row}
 use Rattle.tokens.specs.Kinds.{EOF}
 use Rattle.tokens.specs.Columns.{joint_in}
 use Rattle.tokens.specs.Parts.{first, second, third, width}
-use Rattle.event_log.specs.Forest.{Node, Forest, ◌<>◌, counts, count_node, wides, wide_node}
+use Rattle.event_log.specs.Forest.{Node, Forest, ◌<>◌, flats, flat_node, wides, wide_node}
 use Rattle.event_log.specs.Forest.Tree.{token, error, whole, gone}
 use Rattle.event_log.specs.Forest.Node.{node, wrap}
 use Rattle.event_log.specs.Forest.Forest.{nil, cons}
 
--- the tokens, what the islands at each of them answer, and how many records the log may hold
+-- the tokens, what the islands at each of them answer, if there are rows, and how many records the log may hold
 pub record Env : Type 0 where
   pub kinds : List ℕ
   pub contextual : List ℕ
@@ -65,12 +65,11 @@ infixr 20 ◌>>◌
 abbrev pub ◌>>◌ : {A B : Type 0} → Prog A → Prog B → Prog B
 ◌>>◌ m k = m >>= λ _. k
 
--- how many records it leaves: a number alone, so that a run computes without making them
 abbrev pub size : Forest → ℕ
-size f = counts f
+size f = length (flats f)
 
 abbrev pub size_node : Node → ℕ
-size_node n = count_node n
+size_node n = length (flat_node n None)
 
 abbrev pub kind_at : Env → ℕ → ℕ
 kind_at e i = slice_index_or e.kinds i EOF

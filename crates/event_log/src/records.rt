@@ -13,7 +13,7 @@ pub const MAX_RECORDS: usize = 65535;
 #[derive(Drop)]
 pub struct Log<'a> {
     pub(crate) input: Input<'a>,
-    /// what the islands at each token answer
+    /// what the islands at each token answer, or nothing
     pub(crate) rows: &'a [Row],
     pub(crate) records: &'a mut [Record],
     /// how many records there may come to be

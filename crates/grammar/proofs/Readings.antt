@@ -75,7 +75,7 @@ empty_sound {l} h = record {
     tokens : length l.input.kinds.now ≡ 0
     tokens = ap (λ (e : Env). length e.kinds) h.tokens
 
--- The ghost fields of a reading, in their order
+-- The ghost fields of a reading
 abbrev pub Fields : Log → Type 0
 Fields l = record { within : Within l; roomy : Roomy l; short : Short l; few : Few l; inside : Inside l; blanks : Blanks l; reached : Reached l }
 

@@ -3,7 +3,7 @@
 ghost use Rattle.std.specs.Prelude.{◌≡◌, slice_index_or};
 ghost use Rattle.tokens.specs.Kinds.{EOF as end_of_file};
 ghost use Rattle.hosts.specs.Answers.{one_token};
-ghost use Rattle.hosts.specs.Plain.{literal_or, path_expr, token_pattern, block as BlockOf, plain_block, plain_contents, plain_ahead, plain_answer};
+ghost use Rattle.hosts.specs.Plain.{literal_or, path_expr, token_pattern, block as block_of, plain_block, plain_contents, plain_ahead, plain_answer};
 
 use crate::answers::{ahead, tree};
 use crate::host::Host;
@@ -113,7 +113,7 @@ fn block_expr(ahead: &[u16]) -> Answer
 
 /// A block, by what follows its `{`: up to the closer, and with it, or to the end.
 fn block(inner: &[u16]) -> Answer
-    ensures { result ≡ BlockOf inner.now }
+    ensures { result ≡ block_of inner.now }
 {
     let run = Run::of(inner, Stop::Closer);
     if run.tokens < inner.len() {

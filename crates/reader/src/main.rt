@@ -107,16 +107,22 @@ fn print_tree(rt: &HostRuntime, file: &[u8]) -> anyhow::Result<ExitCode> {
     }
 }
 
+/// Says why nothing could be read.
+fn unread(rt: &HostRuntime, error: io::Error) -> anyhow::Result<ExitCode> {
+    eprintln!(rt; "reader: {error}")?;
+    Ok(ExitCode::FAILURE)
+}
+
 fn run(rt: &HostRuntime) -> anyhow::Result<ExitCode> {
-    let Arguments { form, path } = read_arguments(rt)?;
+    let Arguments { form, path } = match read_arguments(rt) {
+        Ok(arguments) => arguments,
+        Err(error) => return unread(rt, error),
+    };
     // One byte more than the longest file tells that a file is too long.
     let mut bytes = [0; MAX_BYTES + 1];
     let len = match read_input(rt, path, &mut bytes) {
         Ok(len) => len,
-        Err(error) => {
-            eprintln!(rt; "reader: {error}")?;
-            return Ok(ExitCode::FAILURE);
-        }
+        Err(error) => return unread(rt, error),
     };
     match form {
         Form::Listing => print_listing(rt, &bytes[0..len]),

@@ -14,6 +14,9 @@ pub fresh : (rs : List Record) (l m : List ℕ) → m ≡ cleared (length rs) l 
 fresh rs l m e = ap (used (length rs)) e ∙ used_none rs l
 
 -- the same records, by another name
+pub tells_of : {size : Item → ℕ} {qs rs : List Record} {s t : Heard} {r : Result (Unit {0}) Refusal} → qs ≡ rs → TellsAll size qs s t r → TellsAll size rs s t r
+tells_of e h = rw e at h
+
 pub walks_of : {size : Item → ℕ} {qs rs : List Record} {l m : List ℕ} {s t : Heard} {r : Result (Unit {0}) Refusal} → qs ≡ rs → Walks size qs l m s t r → Walks size rs l m s t r
 walks_of e h = rw e at h
 

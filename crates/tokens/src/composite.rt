@@ -1,7 +1,7 @@
 //! Tokens that are made of several raw ones, with no space between them.
 
 ghost use Rattle.std.specs.Prelude.{◌≡◌};
-ghost use Rattle.tokens.specs.Parts.{parts as parts_of, width as width_of_lem};
+ghost use Rattle.tokens.specs.Parts.{parts as parts_of, width as width_of};
 
 use crate::syntax_kind::*;
 
@@ -40,7 +40,7 @@ pub fn parts(kind: u16) -> (u16, u16, u16)
 
 /// How many raw tokens a token of this kind is made of.
 pub fn width(kind: u16) -> u8
-    ensures { result ≡ width_of_lem kind }
+    ensures { result ≡ width_of kind }
 {
     let (_, second, third) = parts(kind);
     if second == EOF {

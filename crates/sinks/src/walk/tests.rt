@@ -58,7 +58,7 @@ fn told(
     Ok(())
 }
 
-/// The same by `process`, which clears the marks itself and leaves them zero.
+/// The same by `process`, which clears the marks itself.
 fn processed(
     rt: &impl Abort,
     records: &[Record],
