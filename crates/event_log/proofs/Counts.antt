@@ -6,7 +6,7 @@ use Rattle.event_log.specs.Forest.{Tree, Node, Forest, flat, flat_node, flats, o
 use Rattle.event_log.specs.Forest.Tree.{token, error, whole, gone}
 use Rattle.event_log.specs.Forest.Node.{node, wrap}
 use Rattle.event_log.specs.Forest.Forest.{nil, cons}
-use Rattle.event_log.specs.Program.{size, size_node}
+use Rattle.event_log.specs.Program.{size}
 
 -- How many records there are, with that of an abandoned start, which is there only before others.
 unfoldable pub count_left : ℕ → ℕ
