@@ -1,8 +1,11 @@
 //! Why a call gave up. Every layer refuses by these.
 #![tactic(auto)]
 
-ghost use Rattle.std.specs.Prelude.{◌≡◌};
-ghost use Rattle.refusals.specs.Refusals.{refusal, too_many_tokens, column_length, wrong_kind, wrong_contextual_kind, wrong_edition, unlawful_row, log_full, marks_short, sink_full, file_short, file_long, column_short};
+ghost use Rattle.std.specs.Prelude.{◌≡◌, Some};
+ghost use Rattle.refusals.specs.Refusals.{told, number_of, place_of, layer_of, text};
+
+use std::error::Error;
+use std::fmt;
 
 #[cfg(test)]
 mod tests;
@@ -17,125 +20,89 @@ pub enum Layer {
     File,
 }
 
-/// Why a call gave up: its number, its place (0 where none is named) and the layer that it arose in.
-/// Only the functions below make one, so each number stands here once.
+/// Why a call gave up.
 #[derive(Clone, Copy, PartialEq, Eq, Debug)]
-pub struct Refusal {
-    number: u8,
-    place: usize,
-    layer: Layer,
+pub enum Refusal {
+    /// More tokens than a reading takes.
+    TooManyTokens { layer: Layer },
+    /// A column of another length than the kinds, or too long a log.
+    ColumnLength,
+    /// A kind that no token has.
+    WrongKind { place: usize },
+    /// A contextual kind that the token cannot have.
+    WrongContextualKind { place: usize },
+    /// An edition that there is not.
+    WrongEdition { place: usize },
+    /// A row that breaks a law of islands.
+    UnlawfulRow { place: usize },
+    /// A record is due, and the log has no room for it.
+    LogFull { place: usize },
+    /// Fewer marks than records.
+    MarksShort,
+    /// The sink has no room for an item that the record at this place tells.
+    SinkFull { place: usize },
+    /// A file that ends before its tokens do.
+    FileShort,
+    /// A file with a bit set, or a byte left over, behind its tokens.
+    FileLong,
+    /// A column with no place for all tokens of the file.
+    ColumnShort,
 }
 
 impl Refusal {
     pub fn number(&self) -> u8
-        ensures { result ≡ self.now.number }
+        ensures { result ≡ number_of self.now }
     {
-        self.number
+        let (number, _, _) = self.told();
+        number
     }
 
+    /// 0 where none is named.
     pub fn place(&self) -> usize
-        ensures { result ≡ self.now.place }
+        ensures { result ≡ place_of self.now }
     {
-        self.place
+        let (_, place, _) = self.told();
+        place
     }
 
+    /// The layer that it arose in.
     pub fn layer(&self) -> Layer
-        ensures { result ≡ self.now.layer }
+        ensures { result ≡ layer_of self.now }
     {
-        self.layer
+        let (_, _, layer) = self.told();
+        layer
     }
 
-    fn made(number: u8, place: usize, layer: Layer) -> Refusal
-        ensures { result ≡ refusal number place layer }
+    /// Its number, its place and its layer. Each number stands here alone.
+    fn told(&self) -> (u8, usize, Layer)
+        ensures { result ≡ told self.now }
     {
-        Refusal {
-            number,
-            place,
-            layer,
+        match *self {
+            Refusal::TooManyTokens { layer } => (1, 0, layer),
+            Refusal::ColumnLength => (2, 0, Layer::Input),
+            Refusal::WrongKind { place } => (3, place, Layer::Input),
+            Refusal::WrongContextualKind { place } => (4, place, Layer::Input),
+            Refusal::WrongEdition { place } => (5, place, Layer::Input),
+            Refusal::UnlawfulRow { place } => (6, place, Layer::Input),
+            Refusal::LogFull { place } => (8, place, Layer::Log),
+            Refusal::MarksShort => (9, 0, Layer::Log),
+            Refusal::SinkFull { place } => (10, place, Layer::Sink),
+            Refusal::FileShort => (11, 0, Layer::File),
+            Refusal::FileLong => (12, 0, Layer::File),
+            Refusal::ColumnShort => (13, 0, Layer::File),
         }
     }
+}
 
-    /// More tokens than a reading takes.
-    pub fn too_many_tokens(layer: Layer) -> Refusal
-        ensures { result ≡ too_many_tokens layer }
-    {
-        Refusal::made(1, 0, layer)
-    }
+/// The line that a program prints of it.
+impl fmt::Display for Refusal {
+    ghost output = { λ r. Some (text r) };
 
-    /// A column of another length than the kinds, or too long a log.
-    pub fn column_length() -> Refusal
-        ensures { result ≡ column_length }
-    {
-        Refusal::made(2, 0, Layer::Input)
-    }
-
-    /// A kind that no token has.
-    pub fn wrong_kind(place: usize) -> Refusal
-        ensures { result ≡ wrong_kind place }
-    {
-        Refusal::made(3, place, Layer::Input)
-    }
-
-    /// A contextual kind that the token cannot have.
-    pub fn wrong_contextual_kind(place: usize) -> Refusal
-        ensures { result ≡ wrong_contextual_kind place }
-    {
-        Refusal::made(4, place, Layer::Input)
-    }
-
-    /// An edition that there is not.
-    pub fn wrong_edition(place: usize) -> Refusal
-        ensures { result ≡ wrong_edition place }
-    {
-        Refusal::made(5, place, Layer::Input)
-    }
-
-    /// A row that breaks a law of islands.
-    pub fn unlawful_row(place: usize) -> Refusal
-        ensures { result ≡ unlawful_row place }
-    {
-        Refusal::made(6, place, Layer::Input)
-    }
-
-    /// A record is due, and the log has no room for it.
-    pub fn log_full(place: usize) -> Refusal
-        ensures { result ≡ log_full place }
-    {
-        Refusal::made(8, place, Layer::Log)
-    }
-
-    /// Fewer marks than records.
-    pub fn marks_short() -> Refusal
-        ensures { result ≡ marks_short }
-    {
-        Refusal::made(9, 0, Layer::Log)
-    }
-
-    /// The sink has no room for an item that the record at this place tells.
-    pub fn sink_full(place: usize) -> Refusal
-        ensures { result ≡ sink_full place }
-    {
-        Refusal::made(10, place, Layer::Sink)
-    }
-
-    /// A file that ends before its tokens do.
-    pub fn file_short() -> Refusal
-        ensures { result ≡ file_short }
-    {
-        Refusal::made(11, 0, Layer::File)
-    }
-
-    /// A file with a bit set, or a byte left over, behind its tokens.
-    pub fn file_long() -> Refusal
-        ensures { result ≡ file_long }
-    {
-        Refusal::made(12, 0, Layer::File)
-    }
-
-    /// A column with no place for all tokens of the file.
-    pub fn column_short() -> Refusal
-        ensures { result ≡ column_short }
-    {
-        Refusal::made(13, 0, Layer::File)
+    fn fmt<W: fmt::Write>(&self, f: &mut fmt::Formatter<W>) -> fmt::Result {
+        let number = self.number();
+        let place = self.place();
+        write!(f, "refused {number} {place}")
     }
 }
+
+impl Error for Refusal {}
