@@ -1,12 +1,14 @@
 -- What the laws of rows say of each answer.
-use Rattle.std.proofs.Common.{◌≡◌, ℕ, zero, suc, ◌<◌, ◌≤◌, Bool, true, ◌&&◌, eqb, ltb, leb, List, length, get_or, Some, sym, refl, ap, ◌∙◌, ⊎_elim, not-suc-le-zero, arith}
+use Rattle.std.proofs.Common.{◌≡◌, ℕ, zero, suc, ◌<◌, ◌≤◌, Bool, true, eqb, ltb, leb, List, length, get_or, Some, sym, refl, ap, ◌∙◌, ⊎_elim, not-suc-le-zero, arith}
 use Rattle.std.proofs.lemmas.Bool.{and_parts, and_from, eqb-true, leb-true, cases_eq, ltb-true, or_cases, both_ways, not-true}
+use Rattle.std.specs.List.{AllPass}
+use Rattle.std.proofs.lemmas.List.Sums.{AllPass-from_list_all}
 use Rattle.tokens.specs.declared.rows.Hook.{Hook}
 use Rattle.tokens.specs.declared.rows.Hook.TheVariants.{Expr, BlockExpr, Literal, ExprBlockContents, Meta, Pattern, PatternSingle}
 use Rattle.tokens.specs.declared.rows.Answer.{Answer}
 use Rattle.tokens.specs.declared.rows.Row.{Row}
 use Rattle.tokens.specs.Kinds.{EOF, ABI, LAST}
-use Rattle.tokens.specs.Islands.{answer_of, exists_from, names_node, node_or_none, may_answer, must_take, takes_enough, lawful_answer, lawful_row, every_hook, every_below, row_at, rows_fit}
+use Rattle.tokens.specs.Islands.{answer_of, exists_from, names_node, node_or_none, may_answer, must_take, takes_enough, lawful_answer, lawful_at, lawful_row, hooks, every_below, row_at, rows_fit}
 
 -- a test that each number below n passes
 pub every_below_at : (p : ℕ → Bool) (n i : ℕ) → every_below p n ≡ true → i < n → p i ≡ true
@@ -22,38 +24,19 @@ all_below p (suc n) h = and_from (every_below p n) (p n) (all_below p n (λ i lt
 
 -- a test that each hook passes
 pub every_hook_at : (kinds : List ℕ) (i : ℕ) (r : Row) (h : Hook) → lawful_row kinds i r ≡ true → lawful_answer kinds i h (answer_of r h) ≡ true
-unfolding every_hook
-every_hook_at kinds i r h e = go h
+every_hook_at kinds i r h e = at h
   where
-    p : Hook → Bool
-    p x = lawful_answer kinds i x (answer_of r x)
+    each : AllPass (lawful_at kinds i r) hooks
+    each = AllPass-from_list_all (lawful_at kinds i r) hooks e
 
-    q₁ : (p Expr ≡ true) × ((p BlockExpr && (p Literal && (p ExprBlockContents && (p Meta && (p Pattern && (p PatternSingle && true)))))) ≡ true)
-    q₁ = and_parts (p Expr) _ e
-
-    q₂ : (p BlockExpr ≡ true) × ((p Literal && (p ExprBlockContents && (p Meta && (p Pattern && (p PatternSingle && true))))) ≡ true)
-    q₂ = and_parts (p BlockExpr) _ q₁.1
-
-    q₃ : (p Literal ≡ true) × ((p ExprBlockContents && (p Meta && (p Pattern && (p PatternSingle && true)))) ≡ true)
-    q₃ = and_parts (p Literal) _ q₂.1
-
-    q₄ : (p ExprBlockContents ≡ true) × ((p Meta && (p Pattern && (p PatternSingle && true))) ≡ true)
-    q₄ = and_parts (p ExprBlockContents) _ q₃.1
-
-    q₅ : (p Meta ≡ true) × ((p Pattern && (p PatternSingle && true)) ≡ true)
-    q₅ = and_parts (p Meta) _ q₄.1
-
-    q₆ : (p Pattern ≡ true) × ((p PatternSingle && true) ≡ true)
-    q₆ = and_parts (p Pattern) _ q₅.1
-
-    go : (x : Hook) → p x ≡ true
-    go Expr = q₁.0
-    go BlockExpr = q₂.0
-    go Literal = q₃.0
-    go ExprBlockContents = q₄.0
-    go Meta = q₅.0
-    go Pattern = q₆.0
-    go PatternSingle = (and_parts (p PatternSingle) true q₆.1).0
+    at : (h : Hook) → lawful_at kinds i r h ≡ true
+    at Expr = each 0 Expr (omega arith)
+    at BlockExpr = each 1 Expr (omega arith)
+    at Literal = each 2 Expr (omega arith)
+    at ExprBlockContents = each 3 Expr (omega arith)
+    at Meta = each 4 Expr (omega arith)
+    at Pattern = each 5 Expr (omega arith)
+    at PatternSingle = each 6 Expr (omega arith)
 
 -- What fitting rows answer at a token is lawful.
 pub row_lawful : (kinds : List ℕ) (rows : List Row) (i : ℕ) (h : Hook) → rows_fit kinds rows ≡ true → i < length kinds → lawful_answer kinds i h (answer_of (row_at rows i) h) ≡ true

@@ -1,5 +1,6 @@
 -- Islands: what may lie at a token place, and the laws that an answer keeps.
 use Rattle.std.specs.Prelude.{ℕ, zero, suc, ◌-◌, Bool, true, false, not, ◌&&◌, ◌||◌, List, [], ◌∷◌, length, is_some, Some, None, Option, ◌==◌, nat_le, nat_lt, slice_index_or}
+use Rattle.std.specs.List.{list_all}
 use Rattle.tokens.specs.declared.rows.Hook.{Hook}
 use Rattle.tokens.specs.declared.rows.Hook.TheVariants.{Expr, BlockExpr, Literal, ExprBlockContents, Meta, Pattern, PatternSingle}
 use Rattle.tokens.specs.declared.rows.Answer.{Answer}
@@ -91,18 +92,13 @@ lawful_answer kinds place h a =
 abbrev pub hooks : List Hook
 hooks = Expr ∷ (BlockExpr ∷ (Literal ∷ (ExprBlockContents ∷ (Meta ∷ (Pattern ∷ (PatternSingle ∷ []))))))
 
--- each of these hooks passes the test
-unfoldable pub every_hook : (Hook → Bool) → List Hook → Bool
-every_hook p [] = true
-every_hook p (h ∷ hs) = p h && every_hook p hs
-
 -- the answer of a row to a hook is lawful at this place
 abbrev pub lawful_at : List ℕ → ℕ → Row → Hook → Bool
 lawful_at kinds place r h = lawful_answer kinds place h (answer_of r h)
 
 -- Every answer of a row is lawful at this place.
 abbrev pub lawful_row : List ℕ → ℕ → Row → Bool
-lawful_row kinds place r = every_hook (lawful_at kinds place r) hooks
+lawful_row kinds place r = list_all (lawful_at kinds place r) hooks
 
 -- Rows for a file
 

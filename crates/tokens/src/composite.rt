@@ -5,36 +5,45 @@ ghost use Rattle.tokens.specs.Parts.{parts as parts_of, width as width_of};
 
 use crate::syntax_kind::*;
 
-/// The raw tokens that a token of this kind is made of, one to three of them: EOF stands for none.
-pub fn parts(kind: u16) -> (u16, u16, u16)
+/// The raw tokens that a token is made of, by their kinds.
+#[derive(Clone, Copy, PartialEq, Eq, Debug)]
+pub enum RawTokens {
+    One(u16),
+    Two(u16, u16),
+    Three(u16, u16, u16),
+}
+
+/// The raw tokens that a token of this kind is made of.
+#[tactic(auto, unfolding(crate::specs::Parts::parts))]
+pub fn parts(kind: u16) -> RawTokens
     ensures { result ≡ parts_of kind }
 {
     match kind {
-        MINUSEQ => (MINUS, EQ, EOF),
-        THIN_ARROW => (MINUS, R_ANGLE, EOF),
-        COLON2 => (COLON, COLON, EOF),
-        NEQ => (BANG, EQ, EOF),
-        DOT2 => (DOT, DOT, EOF),
-        STAREQ => (STAR, EQ, EOF),
-        SLASHEQ => (SLASH, EQ, EOF),
-        AMP2 => (AMP, AMP, EOF),
-        AMPEQ => (AMP, EQ, EOF),
-        PERCENTEQ => (PERCENT, EQ, EOF),
-        CARETEQ => (CARET, EQ, EOF),
-        PLUSEQ => (PLUS, EQ, EOF),
-        SHL => (L_ANGLE, L_ANGLE, EOF),
-        LTEQ => (L_ANGLE, EQ, EOF),
-        EQ2 => (EQ, EQ, EOF),
-        FAT_ARROW => (EQ, R_ANGLE, EOF),
-        GTEQ => (R_ANGLE, EQ, EOF),
-        SHR => (R_ANGLE, R_ANGLE, EOF),
-        PIPEEQ => (PIPE, EQ, EOF),
-        PIPE2 => (PIPE, PIPE, EOF),
-        DOT3 => (DOT, DOT, DOT),
-        DOT2EQ => (DOT, DOT, EQ),
-        SHLEQ => (L_ANGLE, L_ANGLE, EQ),
-        SHREQ => (R_ANGLE, R_ANGLE, EQ),
-        _ => (kind, EOF, EOF),
+        MINUSEQ => RawTokens::Two(MINUS, EQ),
+        THIN_ARROW => RawTokens::Two(MINUS, R_ANGLE),
+        COLON2 => RawTokens::Two(COLON, COLON),
+        NEQ => RawTokens::Two(BANG, EQ),
+        DOT2 => RawTokens::Two(DOT, DOT),
+        STAREQ => RawTokens::Two(STAR, EQ),
+        SLASHEQ => RawTokens::Two(SLASH, EQ),
+        AMP2 => RawTokens::Two(AMP, AMP),
+        AMPEQ => RawTokens::Two(AMP, EQ),
+        PERCENTEQ => RawTokens::Two(PERCENT, EQ),
+        CARETEQ => RawTokens::Two(CARET, EQ),
+        PLUSEQ => RawTokens::Two(PLUS, EQ),
+        SHL => RawTokens::Two(L_ANGLE, L_ANGLE),
+        LTEQ => RawTokens::Two(L_ANGLE, EQ),
+        EQ2 => RawTokens::Two(EQ, EQ),
+        FAT_ARROW => RawTokens::Two(EQ, R_ANGLE),
+        GTEQ => RawTokens::Two(R_ANGLE, EQ),
+        SHR => RawTokens::Two(R_ANGLE, R_ANGLE),
+        PIPEEQ => RawTokens::Two(PIPE, EQ),
+        PIPE2 => RawTokens::Two(PIPE, PIPE),
+        DOT3 => RawTokens::Three(DOT, DOT, DOT),
+        DOT2EQ => RawTokens::Three(DOT, DOT, EQ),
+        SHLEQ => RawTokens::Three(L_ANGLE, L_ANGLE, EQ),
+        SHREQ => RawTokens::Three(R_ANGLE, R_ANGLE, EQ),
+        _ => RawTokens::One(kind),
     }
 }
 
@@ -42,12 +51,9 @@ pub fn parts(kind: u16) -> (u16, u16, u16)
 pub fn width(kind: u16) -> u8
     ensures { result ≡ width_of kind }
 {
-    let (_, second, third) = parts(kind);
-    if second == EOF {
-        return 1;
+    match parts(kind) {
+        RawTokens::One(_) => 1,
+        RawTokens::Two(_, _) => 2,
+        RawTokens::Three(_, _, _) => 3,
     }
-    if third == EOF {
-        return 2;
-    }
-    3
 }

@@ -23,11 +23,7 @@ pub struct Input<'a> {
 pub(crate) fn entry<T: Copy>(column: &[T], idx: usize, past: T) -> T
     ensures { result ≡ slice_index_or column.now idx past }
 {
-    if idx < column.len() {
-        column[idx]
-    } else {
-        past
-    }
+    column.get(idx).copied().unwrap_or(past)
 }
 
 impl<'a> Input<'a> {
@@ -54,13 +50,6 @@ impl<'a> Input<'a> {
     pub fn is_joint(&self, idx: usize) -> bool
         ensures { result ≡ joint_in self.now.kinds.now self.now.joint.now idx }
     {
-        if idx >= self.kinds.len() {
-            return false;
-        }
-        let word = idx / 64;
-        if word >= self.joint.len() {
-            return false;
-        }
-        (self.joint[word] >> (idx % 64)) % 2 == 1
+        idx < self.kinds.len() && (entry(self.joint, idx / 64, 0) >> (idx % 64)) % 2 == 1
     }
 }

@@ -117,10 +117,7 @@ impl Answer {
     fn names_node(&self) -> bool
         ensures { result ≡ names_node self.now }
     {
-        match self.kind {
-            Some(kind) => ABI <= kind && kind < __LAST,
-            None => true,
-        }
+        self.kind.is_none_or(|kind| ABI <= kind && kind < __LAST)
     }
 }
 
@@ -128,18 +125,18 @@ impl Answer {
 pub fn is_literal(kind: u16) -> bool
     ensures { result ≡ is_literal kind }
 {
-    match kind {
+    matches!(
+        kind,
         TRUE_KW
-        | FALSE_KW
-        | INT_NUMBER
-        | FLOAT_NUMBER
-        | CHAR
-        | BYTE
-        | STRING
-        | BYTE_STRING
-        | C_STRING => true,
-        _ => false,
-    }
+            | FALSE_KW
+            | INT_NUMBER
+            | FLOAT_NUMBER
+            | CHAR
+            | BYTE
+            | STRING
+            | BYTE_STRING
+            | C_STRING
+    )
 }
 
 /// What this hook may answer: with a fault, anything.
@@ -183,14 +180,11 @@ fn takes_enough(hook: Hook, kind: u16, answer: &Answer) -> bool
 fn exists_from(kinds: &[u16], place: usize, tokens: usize) -> bool
     ensures { result ≡ exists_from kinds.now place tokens }
 {
-    if place < kinds.len() {
-        tokens <= kinds.len() - place
-    } else {
-        tokens == 0
-    }
+    tokens <= kinds.len().saturating_sub(place)
 }
 
 /// The answer keeps the laws of islands.
+#[tactic(auto, unfolding(crate::specs::Islands::lawful_answer))]
 fn lawful_answer(kinds: &[u16], place: usize, hook: Hook, answer: &Answer) -> bool
     ensures { result ≡ lawful_answer kinds.now place hook answer.now }
 {
@@ -204,11 +198,5 @@ fn lawful_answer(kinds: &[u16], place: usize, hook: Hook, answer: &Answer) -> bo
 pub fn lawful(kinds: &[u16], place: usize, row: &Row) -> bool
     ensures { result ≡ lawful_row kinds.now place row.now }
 {
-    for hook in HOOKS {
-        let answer = row.answer(hook);
-        if !lawful_answer(kinds, place, hook, &answer) {
-            return false;
-        }
-    }
-    true
+    HOOKS.iter().all(|hook| lawful_answer(kinds, place, *hook, &row.answer(*hook)))
 }

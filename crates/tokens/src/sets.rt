@@ -1,4 +1,4 @@
-//! The token sets of the grammar, as tables. A kind is in one word of the three, by its number; a union is the union of each word.
+//! The token sets of the grammar, as tables.
 
 ghost use Rattle.std.specs.Prelude.{◌≡◌, true};
 ghost use Rattle.tokens.specs.Sets.{grammar_sets};
@@ -14,248 +14,185 @@ use crate::syntax_kind::{
 };
 use crate::token_set::TokenSet;
 
-/// The first kind of the second word.
-const WORD_1: u16 = 64;
+/// A table: the set of all that is in these sets, and of these kinds. A constant calls no function, so this stands for `TokenSet::new` and `union`.
+macro_rules! token_set {
+    ($($set:ident |)* [$($kind:ident),*]) => {
+        TokenSet {
+            words: [
+                0 $(| $set.words[0])* $(| (($kind < 64) as u64) << ($kind % 64))*,
+                0 $(| $set.words[1])* $(| (($kind / 64 == 1) as u64) << ($kind % 64))*,
+                0 $(| $set.words[2])* $(| (($kind >= 128) as u64) << ($kind % 64))*,
+            ],
+        }
+    };
+    ($($set:ident)|*) => {
+        token_set!($($set |)* [])
+    };
+}
 
-/// The first kind of the third word.
-const WORD_2: u16 = 128;
+pub const OUTER_ATTR_FIRST: TokenSet = token_set!([POUND, OUTER_DOC_COMMENT]);
 
-pub const OUTER_ATTR_FIRST: TokenSet = TokenSet {
-    words: [1 << POUND, 0, 1 << (OUTER_DOC_COMMENT - WORD_2)],
-};
-
-pub const VISIBILITY_FIRST: TokenSet = TokenSet {
-    words: [0, 1 << (PUB_KW - WORD_1), 0],
-};
+pub const VISIBILITY_FIRST: TokenSet = token_set!([PUB_KW]);
 
 /// The name in a segment of a path.
-pub const PATH_NAME_REF_KINDS: TokenSet = TokenSet {
-    words: [
-        1 << CRATE_KW | 1 << SELF_TYPE_KW,
-        1 << (SELF_KW - WORD_1) | 1 << (SUPER_KW - WORD_1),
-        1 << (IDENT - WORD_2),
-    ],
-};
+pub const PATH_NAME_REF_KINDS: TokenSet = token_set!([
+    IDENT,
+    SELF_KW,
+    SUPER_KW,
+    CRATE_KW,
+    SELF_TYPE_KW
+]);
 
 /// COLON stands for `::`, whose first raw token it is.
-pub const PATH_FIRST: TokenSet = TokenSet {
-    words: [
-        1 << CRATE_KW | 1 << SELF_TYPE_KW | 1 << COLON | 1 << L_ANGLE,
-        1 << (SELF_KW - WORD_1) | 1 << (SUPER_KW - WORD_1),
-        1 << (IDENT - WORD_2),
-    ],
-};
+pub const PATH_FIRST: TokenSet = token_set!([
+    IDENT,
+    SELF_KW,
+    SUPER_KW,
+    CRATE_KW,
+    SELF_TYPE_KW,
+    COLON,
+    L_ANGLE
+]);
 
-pub const TYPE_FIRST: TokenSet = TokenSet {
-    words: [
-        PATH_FIRST.words[0]
-            | 1 << L_PAREN
-            | 1 << L_BRACK
-            | 1 << L_ANGLE
-            | 1 << BANG
-            | 1 << STAR
-            | 1 << AMP
-            | 1 << UNDERSCORE
-            | 1 << SELF_TYPE_KW,
-        PATH_FIRST.words[1]
-            | 1 << (FN_KW - WORD_1)
-            | 1 << (UNSAFE_KW - WORD_1)
-            | 1 << (EXTERN_KW - WORD_1)
-            | 1 << (FOR_KW - WORD_1)
-            | 1 << (IMPL_KW - WORD_1)
-            | 1 << (DYN_KW - WORD_1),
-        PATH_FIRST.words[2] | 1 << (LIFETIME_IDENT - WORD_2),
-    ],
-};
+pub const TYPE_FIRST: TokenSet = token_set!(
+    PATH_FIRST
+        | [
+            L_PAREN,
+            L_BRACK,
+            L_ANGLE,
+            BANG,
+            STAR,
+            AMP,
+            UNDERSCORE,
+            FN_KW,
+            UNSAFE_KW,
+            EXTERN_KW,
+            FOR_KW,
+            IMPL_KW,
+            DYN_KW,
+            SELF_TYPE_KW,
+            LIFETIME_IDENT
+        ]
+);
 
-pub const TYPE_RECOVERY_SET: TokenSet = TokenSet {
-    words: [
-        1 << R_PAREN | 1 << R_BRACK | 1 << R_CURLY | 1 << R_ANGLE | 1 << COMMA,
-        1 << (PUB_KW - WORD_1),
-        0,
-    ],
-};
+pub const TYPE_RECOVERY_SET: TokenSet = token_set!([
+    R_PAREN, R_BRACK, R_CURLY, R_ANGLE, COMMA, PUB_KW
+]);
 
 /// What follows `dyn` where it is read as a keyword in edition 2015.
-pub const WEAK_DYN_PATH_FIRST: TokenSet = TokenSet {
-    words: [
-        1 << CRATE_KW | 1 << SELF_TYPE_KW | 1 << QUESTION | 1 << L_PAREN,
-        1 << (SELF_KW - WORD_1) | 1 << (SUPER_KW - WORD_1) | 1 << (FOR_KW - WORD_1),
-        1 << (IDENT - WORD_2) | 1 << (LIFETIME_IDENT - WORD_2),
-    ],
-};
+pub const WEAK_DYN_PATH_FIRST: TokenSet = token_set!([
+    IDENT,
+    SELF_KW,
+    SUPER_KW,
+    CRATE_KW,
+    SELF_TYPE_KW,
+    LIFETIME_IDENT,
+    QUESTION,
+    FOR_KW,
+    L_PAREN
+]);
 
-pub const ITEM_RECOVERY_SET: TokenSet = TokenSet {
-    words: [
-        1 << CONST_KW | 1 << CRATE_KW | 1 << SEMICOLON,
-        1 << (FN_KW - WORD_1)
-            | 1 << (STRUCT_KW - WORD_1)
-            | 1 << (ENUM_KW - WORD_1)
-            | 1 << (IMPL_KW - WORD_1)
-            | 1 << (TRAIT_KW - WORD_1)
-            | 1 << (ASYNC_KW - WORD_1)
-            | 1 << (UNSAFE_KW - WORD_1)
-            | 1 << (EXTERN_KW - WORD_1)
-            | 1 << (STATIC_KW - WORD_1)
-            | 1 << (LET_KW - WORD_1)
-            | 1 << (MOD_KW - WORD_1)
-            | 1 << (PUB_KW - WORD_1)
-            | 1 << (USE_KW - WORD_1)
-            | 1 << (MACRO_KW - WORD_1),
-        0,
-    ],
-};
+pub const ITEM_RECOVERY_SET: TokenSet = token_set!([
+    FN_KW, STRUCT_KW, ENUM_KW, IMPL_KW, TRAIT_KW, CONST_KW, ASYNC_KW, UNSAFE_KW, EXTERN_KW,
+    STATIC_KW, LET_KW, MOD_KW, PUB_KW, CRATE_KW, USE_KW, MACRO_KW, SEMICOLON
+]);
 
-pub const TUPLE_FIELD_FIRST: TokenSet = TokenSet {
-    words: [
-        TYPE_FIRST.words[0] | OUTER_ATTR_FIRST.words[0] | VISIBILITY_FIRST.words[0],
-        TYPE_FIRST.words[1] | OUTER_ATTR_FIRST.words[1] | VISIBILITY_FIRST.words[1],
-        TYPE_FIRST.words[2] | OUTER_ATTR_FIRST.words[2] | VISIBILITY_FIRST.words[2],
-    ],
-};
+pub const TUPLE_FIELD_FIRST: TokenSet = token_set!(
+    TYPE_FIRST | OUTER_ATTR_FIRST | VISIBILITY_FIRST
+);
 
 /// What a token tree begins with.
-pub const OPENING: TokenSet = TokenSet {
-    words: [1 << L_CURLY | 1 << L_BRACK | 1 << L_PAREN, 0, 0],
-};
+pub const OPENING: TokenSet = token_set!([L_CURLY, L_BRACK, L_PAREN]);
 
-pub const LITERAL_FIRST: TokenSet = TokenSet {
-    words: [
-        0,
-        1 << (TRUE_KW - WORD_1) | 1 << (FALSE_KW - WORD_1),
-        1 << (INT_NUMBER - WORD_2)
-            | 1 << (FLOAT_NUMBER - WORD_2)
-            | 1 << (BYTE - WORD_2)
-            | 1 << (CHAR - WORD_2)
-            | 1 << (STRING - WORD_2)
-            | 1 << (BYTE_STRING - WORD_2)
-            | 1 << (C_STRING - WORD_2),
-    ],
-};
+pub const LITERAL_FIRST: TokenSet = token_set!([
+    TRUE_KW,
+    FALSE_KW,
+    INT_NUMBER,
+    FLOAT_NUMBER,
+    BYTE,
+    CHAR,
+    STRING,
+    BYTE_STRING,
+    C_STRING
+]);
 
 /// The literals that are no keywords.
-pub const LITERALS: TokenSet = TokenSet {
-    words: [
-        0,
-        0,
-        1 << (BYTE - WORD_2)
-            | 1 << (BYTE_STRING - WORD_2)
-            | 1 << (CHAR - WORD_2)
-            | 1 << (C_STRING - WORD_2)
-            | 1 << (FLOAT_NUMBER - WORD_2)
-            | 1 << (INT_NUMBER - WORD_2)
-            | 1 << (STRING - WORD_2),
-    ],
-};
+pub const LITERALS: TokenSet = token_set!([
+    BYTE,
+    BYTE_STRING,
+    CHAR,
+    C_STRING,
+    FLOAT_NUMBER,
+    INT_NUMBER,
+    STRING
+]);
 
-pub const EXPR_RECOVERY_SET: TokenSet = TokenSet {
-    words: [
-        1 << L_PAREN | 1 << R_CURLY | 1 << R_PAREN | 1 << R_BRACK | 1 << COMMA,
-        0,
-        0,
-    ],
-};
+pub const EXPR_RECOVERY_SET: TokenSet = token_set!([L_PAREN, R_CURLY, R_PAREN, R_BRACK, COMMA]);
 
-pub const PATTERN_FIRST: TokenSet = TokenSet {
-    words: [
-        LITERAL_FIRST.words[0]
-            | PATH_FIRST.words[0]
-            | 1 << BOX_KW
-            | 1 << CONST_KW
-            | 1 << L_PAREN
-            | 1 << L_BRACK
-            | 1 << AMP
-            | 1 << UNDERSCORE
-            | 1 << MINUS
-            | 1 << DOT
-            | 1 << BANG,
-        LITERAL_FIRST.words[1]
-            | PATH_FIRST.words[1]
-            | 1 << (REF_KW - WORD_1)
-            | 1 << (MUT_KW - WORD_1),
-        LITERAL_FIRST.words[2] | PATH_FIRST.words[2],
-    ],
-};
+pub const PATTERN_FIRST: TokenSet = token_set!(
+    LITERAL_FIRST
+        | PATH_FIRST
+        | [
+            BOX_KW, REF_KW, MUT_KW, CONST_KW, L_PAREN, L_BRACK, AMP, UNDERSCORE, MINUS, DOT, BANG
+        ]
+);
 
 /// Where the path of an expression stops when the name of a segment is missing.
-pub const EXPR_PATH_SEGMENT_RECOVERY_SET: TokenSet = TokenSet {
-    words: [
-        EXPR_RECOVERY_SET.words[0] | ITEM_RECOVERY_SET.words[0],
-        EXPR_RECOVERY_SET.words[1] | ITEM_RECOVERY_SET.words[1],
-        EXPR_RECOVERY_SET.words[2] | ITEM_RECOVERY_SET.words[2],
-    ],
-};
+pub const EXPR_PATH_SEGMENT_RECOVERY_SET: TokenSet = token_set!(
+    EXPR_RECOVERY_SET | ITEM_RECOVERY_SET
+);
 
 /// The same, in the path of a visibility.
-pub const VIS_PATH_SEGMENT_RECOVERY_SET: TokenSet = TokenSet {
-    words: [
-        ITEM_RECOVERY_SET.words[0] | 1 << R_PAREN,
-        ITEM_RECOVERY_SET.words[1],
-        ITEM_RECOVERY_SET.words[2],
-    ],
-};
+pub const VIS_PATH_SEGMENT_RECOVERY_SET: TokenSet = token_set!(ITEM_RECOVERY_SET | [R_PAREN]);
 
-pub const PARAM_FIRST: TokenSet = TokenSet {
-    words: [
-        PATTERN_FIRST.words[0] | TYPE_FIRST.words[0],
-        PATTERN_FIRST.words[1] | TYPE_FIRST.words[1],
-        PATTERN_FIRST.words[2] | TYPE_FIRST.words[2],
-    ],
-};
+/// What a type begins with and no pattern does. A constant may name only so much, too little for PATTERN_FIRST and TYPE_FIRST together.
+const TYPE_ONLY_FIRST: TokenSet = token_set!([
+    STAR,
+    FN_KW,
+    UNSAFE_KW,
+    EXTERN_KW,
+    FOR_KW,
+    IMPL_KW,
+    DYN_KW,
+    LIFETIME_IDENT
+]);
 
-pub const PARAM_OR_ATTR_FIRST: TokenSet = TokenSet {
-    words: [
-        PARAM_FIRST.words[0] | OUTER_ATTR_FIRST.words[0],
-        PARAM_FIRST.words[1] | OUTER_ATTR_FIRST.words[1],
-        PARAM_FIRST.words[2] | OUTER_ATTR_FIRST.words[2],
-    ],
-};
+/// What a pattern or a type begins with.
+pub const PARAM_FIRST: TokenSet = token_set!(PATTERN_FIRST | TYPE_ONLY_FIRST);
 
-pub const GENERIC_ARG_FIRST: TokenSet = TokenSet {
-    words: [
-        TYPE_FIRST.words[0] | 1 << L_CURLY | 1 << MINUS,
-        TYPE_FIRST.words[1] | 1 << (TRUE_KW - WORD_1) | 1 << (FALSE_KW - WORD_1),
-        TYPE_FIRST.words[2]
-            | 1 << (LIFETIME_IDENT - WORD_2)
-            | 1 << (IDENT - WORD_2)
-            | 1 << (INT_NUMBER - WORD_2)
-            | 1 << (FLOAT_NUMBER - WORD_2)
-            | 1 << (CHAR - WORD_2)
-            | 1 << (BYTE - WORD_2)
-            | 1 << (STRING - WORD_2)
-            | 1 << (BYTE_STRING - WORD_2)
-            | 1 << (C_STRING - WORD_2),
-    ],
-};
+pub const PARAM_OR_ATTR_FIRST: TokenSet = token_set!(
+    PATTERN_FIRST | TYPE_ONLY_FIRST | OUTER_ATTR_FIRST
+);
 
-pub const GENERIC_ARG_RECOVERY_SET: TokenSet = TokenSet {
-    words: [1 << R_ANGLE | 1 << COMMA, 0, 0],
-};
+pub const GENERIC_ARG_FIRST: TokenSet = token_set!(
+    TYPE_FIRST
+        | [
+            LIFETIME_IDENT,
+            IDENT,
+            L_CURLY,
+            TRUE_KW,
+            FALSE_KW,
+            MINUS,
+            INT_NUMBER,
+            FLOAT_NUMBER,
+            CHAR,
+            BYTE,
+            STRING,
+            BYTE_STRING,
+            C_STRING
+        ]
+);
 
-pub const GENERIC_PARAM_FIRST: TokenSet = TokenSet {
-    words: [
-        1 << CONST_KW,
-        0,
-        1 << (IDENT - WORD_2) | 1 << (LIFETIME_IDENT - WORD_2),
-    ],
-};
+pub const GENERIC_ARG_RECOVERY_SET: TokenSet = token_set!([R_ANGLE, COMMA]);
 
-pub const GENERIC_PARAM_OR_ATTR_FIRST: TokenSet = TokenSet {
-    words: [
-        GENERIC_PARAM_FIRST.words[0] | OUTER_ATTR_FIRST.words[0],
-        GENERIC_PARAM_FIRST.words[1] | OUTER_ATTR_FIRST.words[1],
-        GENERIC_PARAM_FIRST.words[2] | OUTER_ATTR_FIRST.words[2],
-    ],
-};
+pub const GENERIC_PARAM_FIRST: TokenSet = token_set!([IDENT, LIFETIME_IDENT, CONST_KW]);
+
+pub const GENERIC_PARAM_OR_ATTR_FIRST: TokenSet = token_set!(
+    GENERIC_PARAM_FIRST | OUTER_ATTR_FIRST
+);
 
 /// What `use<..>` captures.
-pub const USE_BOUND_FIRST: TokenSet = TokenSet {
-    words: [
-        1 << SELF_TYPE_KW,
-        0,
-        1 << (IDENT - WORD_2) | 1 << (LIFETIME_IDENT - WORD_2),
-    ],
-};
+pub const USE_BOUND_FIRST: TokenSet = token_set!([SELF_TYPE_KW, IDENT, LIFETIME_IDENT]);
 
 /// Every table, in the order of the lists of kinds that they stand for.
 pub fn tables() -> [TokenSet; 24]
