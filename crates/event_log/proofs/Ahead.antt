@@ -3,30 +3,15 @@ use Rattle.std.proofs.Common.{◌≡◌, ℕ, ◌+◌, ◌<◌, ◌≤◌, Bool,
 use Rattle.std.proofs.lemmas.List.{get_or_past}
 use Rattle.std.proofs.lemmas.Bool.{and_left, and_right, and_from, and_parts, or_left, or_right, or_cases, ne_eqb, eq-eqb, eqb-true, eqb-false, not-true, cases_lt, not_from_false, not_from_true, cond_both}
 use Rattle.tokens.specs.Kinds.{EOF}
-use Rattle.tokens.specs.Parts.{parts, first, second, third, width}
-use Rattle.event_log.specs.Program.{Env, kind_at, contextual_at, follows, ahead, present, readable, spells}
+use Rattle.tokens.specs.declared.composite.RawTokens.{RawTokens}
+use Rattle.tokens.specs.declared.composite.RawTokens.TheVariants.{One, Two, Three}
+use Rattle.tokens.specs.Parts.{parts, length_of, width}
+use Rattle.tokens.proofs.Composites.{NoEnd, no_end}
+use Rattle.event_log.specs.Program.{Env, kind_at, contextual_at, follows, raw_ahead, ahead, present, readable, spells}
 
 -- a token that is there lies before the end
 pub within : (e : Env) (i : ℕ) → (kind_at e i ≡ EOF → ⊥) → i < length e.kinds
 within e i h = ⊎_elim (λ lt. lt) (λ le. absurd (h (get_or_past e.kinds i EOF le))) (cases_lt i (length e.kinds))
-
-abbrev ahead_by : Env → ℕ → ℕ × ℕ × ℕ → Bool
-ahead_by e i r = eqb (kind_at e i) r.0 && (follows e i r.1 && follows e (i + 1) r.2)
-
-pub ahead_first : (e : Env) (i k : ℕ) (r : ℕ × ℕ × ℕ) → r ≡ parts k → (kind_at e i ≡ r.0 → ⊥) → ahead e i k ≡ false
-unfolding ahead
-ahead_first e i k r p h = ap (ahead_by e i) (sym p) ∙ and_left (eqb (kind_at e i) r.0) _ (ne_eqb _ _ h)
-
-pub ahead_second : (e : Env) (i k : ℕ) (r : ℕ × ℕ × ℕ) → r ≡ parts k → follows e i r.1 ≡ false → ahead e i k ≡ false
-unfolding ahead
-ahead_second e i k r p h = ap (ahead_by e i) (sym p) ∙ and_right (eqb (kind_at e i) r.0) _ (and_left (follows e i r.1) _ h)
-
-pub ahead_third : (e : Env) (i k : ℕ) (r : ℕ × ℕ × ℕ) → r ≡ parts k → kind_at e i ≡ r.0 → follows e i r.1 ≡ true → ahead e i k ≡ follows e (i + 1) r.2
-unfolding ahead
-ahead_third e i k r p h g =
-    ap (ahead_by e i) (sym p)
-    ∙ ap (λ (b : Bool). b && (follows e i r.1 && follows e (i + 1) r.2)) (eq-eqb _ _ h)
-    ∙ ap (λ (b : Bool). b && follows e (i + 1) r.2) g
 
 -- The tests of the code
 
@@ -71,34 +56,28 @@ spells_readable e i k h = or_right (eqb 1 1 && (not (eqb (kind_at e i) EOF) && e
 pub present_is : (e : Env) (i k : ℕ) → (kind_at e i ≡ EOF → ⊥) → ahead e i k ≡ true → present e i k ≡ true
 present_is e i k n h = and_from _ _ (not_from_false _ (ne_eqb _ _ n)) h
 
--- a token that is made of others than the end is not there at the end
-pub ahead_present : (e : Env) (i k : ℕ) → (first k ≡ EOF → ⊥) → ahead e i k ≡ true → present e i k ≡ true
-unfolding ahead
-ahead_present e i k n h = present_is e i k (λ z. n (sym (eqb-true _ _ (and_parts (eqb (kind_at e i) (first k)) _ h).0) ∙ z)) h
-
 pub spells_present : (e : Env) (i k w : ℕ) → w ≡ width k → present e i k ≡ true → spells e i k w ≡ true
 unfolding spells
 spells_present e i k w p h = or_right (eqb w 1 && (not (eqb (kind_at e i) EOF) && eqb (kind_at e i) k)) _ (or_right (eqb w 1 && readable e i k) _ (and_from (eqb w (width k)) (present e i k) (eq-eqb _ _ p) h))
 
 -- What it spells lies before the end
 
-joint_within : (e : Env) (i k : ℕ) → (k ≡ EOF → ⊥) → follows e i k ≡ true → i + 1 < length e.kinds
-joint_within e i k n h = ⊎_elim (λ z. absurd (n (eqb-true k EOF z))) (λ z. within e (i + 1) (λ q. n (sym (eqb-true _ k (and_parts _ _ z).1) ∙ q))) (or_cases (eqb k EOF) _ h)
+follows_within : (e : Env) (i k : ℕ) → (k ≡ EOF → ⊥) → follows e i k ≡ true → i + 1 < length e.kinds
+follows_within e i k n h = within e (i + 1) (λ q. n (sym (eqb-true _ k (and_parts _ _ h).1) ∙ q))
 
 -- a test that excludes the end
 not_end : (e : Env) (i : ℕ) (b : Bool) → (not (eqb (kind_at e i) EOF) && b) ≡ true → i < length e.kinds
 not_end e i b h = within e i (eqb-false _ _ (not-true _ (and_parts (not (eqb (kind_at e i) EOF)) b h).0))
 
+wide_by : (e : Env) (i : ℕ) (r : RawTokens) → i < length e.kinds → NoEnd r → raw_ahead e i r ≡ true → i + length_of r ≤ length e.kinds
+unfolding raw_ahead
+wide_by e i (One a) lt n h = omega (arith, lt)
+wide_by e i (Two a b) lt n h = omega (arith, follows_within e i b n (and_parts (eqb (kind_at e i) a) _ h).1)
+wide_by e i (Three a b c) lt n h =
+    omega (arith, follows_within e (i + 1) c n.1 (and_parts (follows e i b) _ (and_parts (eqb (kind_at e i) a) _ h).1).1)
+
 wide_within : (e : Env) (i k : ℕ) → present e i k ≡ true → i + width k ≤ length e.kinds
-unfolding ahead
-wide_within e i k h =
-    cond_both (eqb (second k) EOF) 1 _ (λ w. i + w ≤ length e.kinds) (λ _. omega (arith, not_end e i (ahead e i k) h))
-    (λ z. cond_both (eqb (third k) EOF) 2 3 (λ w. i + w ≤ length e.kinds)
-    (λ _. omega (arith, joint_within e i (second k) (eqb-false _ _ z) both.0))
-    (λ y. omega (arith, joint_within e (i + 1) (third k) (eqb-false _ _ y) both.1)))
-  where
-    both : (follows e i (second k) ≡ true) × (follows e (i + 1) (third k) ≡ true)
-    both = and_parts _ _ (and_parts (eqb (kind_at e i) (first k)) _ (and_parts (not (eqb (kind_at e i) EOF)) _ h).1).1
+wide_within e i k h = wide_by e i (parts k) (not_end e i (ahead e i k) h) (no_end k) (and_parts (not (eqb (kind_at e i) EOF)) _ h).1
 
 pub spelt_within : (e : Env) (i k w : ℕ) → spells e i k w ≡ true → i + w ≤ length e.kinds
 unfolding spells

@@ -1,7 +1,7 @@
 -- The one induction over programs: what each step keeps holds of whatever a program comes to.
 use Rattle.std.proofs.Common.{◌≡◌, ℕ, zero, suc, ◌+◌, ◌<◌, Bool, true, false, cond, ltb, Some, None, Option, refl, suc-le-suc, zero-le, not-suc-le-zero, ltb-true}
 use Rattle.refusals.specs.declared.Refusal.{Refusal}
-use Rattle.refusals.specs.Refusals.{log_full}
+use Rattle.refusals.specs.declared.Refusal.TheVariants.{LogFull}
 use Rattle.event_log.specs.Forest.{Node, Forest, ◌<>◌, wides, wide_node}
 use Rattle.event_log.specs.Forest.Tree.{token, error, whole, gone}
 use Rattle.event_log.specs.Forest.Node.{node, wrap}
@@ -41,9 +41,9 @@ pub on_due : {A : Type 0} (S : Out A → Type 0) (s : (r : Refusal) → S (no r)
 unfolding record_due
 on_due S s e c i o h = go (ltb c e.room) refl
   where
-    go : (b : Bool) → ltb c e.room ≡ b → S (elim b [ true ↦ o | false ↦ no (log_full i) ])
+    go : (b : Bool) → ltb c e.room ≡ b → S (elim b [ true ↦ o | false ↦ no (LogFull i) ])
     go true t = h (ltb-true c e.room t)
-    go false t = s (log_full i)
+    go false t = s (LogFull i)
 
 pub on_completed : {A : Type 0} (S : Out A → Type 0) (s : (r : Refusal) → S (no r)) (z : S never) (e : Env) (k c i : ℕ) (o : Out A) → (0 < k → c < e.room → S o) → S (completed e k c i o)
 unfolding completed

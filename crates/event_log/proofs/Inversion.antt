@@ -1,7 +1,7 @@
 -- What a program went through that came to an answer.
 use Rattle.std.proofs.Common.{◌≡◌, ℕ, zero, suc, ◌+◌, ◌<◌, Bool, true, false, cond, ltb, ◌⊎◌, Some, None, Option, sym, refl, ap, ◌∙◌, subst, inl, inr, ⊎_elim, suc-le-suc, zero-le, arith, ltb-true}
 use Rattle.refusals.specs.declared.Refusal.{Refusal}
-use Rattle.refusals.specs.Refusals.{log_full}
+use Rattle.refusals.specs.declared.Refusal.TheVariants.{LogFull}
 use Rattle.event_log.specs.Forest.{Node, Forest, ◌<>◌, wides, wide_node, kind_of}
 use Rattle.event_log.specs.Forest.Tree.{token, error, whole, gone}
 use Rattle.event_log.specs.Forest.Node.{node, wrap}
@@ -41,7 +41,7 @@ due_ok : {A : Type 0} (e : Env) (c i : ℕ) (o : Out A) (f : Forest) (a : A) →
 unfolding record_due
 due_ok {A = A} e c i o f a h = go (ltb c e.room) refl h
   where
-    go : (b : Bool) → ltb c e.room ≡ b → ◌≡◌ {A = Out A} (elim b [ true ↦ o | false ↦ no (log_full i) ]) (ok f a) → (c < e.room) × (o ≡ ok f a)
+    go : (b : Bool) → ltb c e.room ≡ b → ◌≡◌ {A = Out A} (elim b [ true ↦ o | false ↦ no (LogFull i) ]) (ok f a) → (c < e.room) × (o ≡ ok f a)
     go true t x = (ltb-true c e.room t, x)
     go false t x = absurd (no≢ok x)
 

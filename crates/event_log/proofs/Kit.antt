@@ -13,7 +13,7 @@ use Rattle.event_log.specs.Program.{completed as completed_at}
 use Rattle.event_log.specs.Program.Prog.{give, stop, ◌>>=◌, here, take, fault, repeat}
 use Rattle.event_log.specs.Program.Out.{ok, no, never}
 use Rattle.event_log.specs.Program.Turn.{again, done}
-use Rattle.refusals.specs.Refusals.{log_full}
+use Rattle.refusals.specs.declared.Refusal.TheVariants.{LogFull}
 use Rattle.event_log.specs.Model.{State, Grown, from, Does, Pushes, Full}
 use Rattle.event_log.specs.Marks.{Starts, Inside, Open, Named}
 use Rattle.event_log.specs.Model.Does.{did, refused}
@@ -85,7 +85,7 @@ nay m e h = rw e h
 -- One record more
 
 -- the refusal of a log that is full
-pub full_no : {A : Type 0} {s t : State} {e : Refusal} → Full s t e → ◌≡◌ {A = Out A} (no (log_full s.place)) (no e)
+pub full_no : {A : Type 0} {s t : State} {e : Refusal} → Full s t e → ◌≡◌ {A = Out A} (no (LogFull s.place)) (no e)
 full_no h = ap (λ (x : Refusal). no x) (sym h.refusal)
 
 pub faults : {n k : ℕ} {s t : State} {r : Result (Unit {0}) Refusal} → Pushes (Error n k) s t r → Does (fault n k) s t r

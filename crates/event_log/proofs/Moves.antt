@@ -5,7 +5,9 @@ use Rattle.event_log.specs.declared.event.Record.{Record}
 use Rattle.refusals.specs.declared.Refusal.{Refusal}
 use Rattle.event_log.specs.declared.marker.Marker.{Marker}
 use Rattle.event_log.specs.declared.marker.CompletedMarker.{CompletedMarker}
-use Rattle.tokens.specs.Parts.{second, third, width}
+use Rattle.tokens.specs.declared.composite.RawTokens.{RawTokens}
+use Rattle.tokens.specs.declared.composite.RawTokens.TheVariants.{One, Two, Three}
+use Rattle.tokens.specs.Parts.{parts, length_of, width}
 use Rattle.event_log.specs.Forest.{Tree, Node, Forest, ◌<>◌, wide, wides, wide_node}
 use Rattle.event_log.specs.Forest.Tree.{token}
 use Rattle.event_log.specs.Forest.Forest.{nil, cons}
@@ -13,7 +15,7 @@ use Rattle.event_log.specs.Program.{Env, Prog, Out, grow, next, record_due, pres
 use Rattle.event_log.specs.Program.Prog.{give, take, ◌>>=◌}
 use Rattle.event_log.specs.Program.Out.{ok, no, never}
 use Rattle.event_log.specs.Steps.{bump, eat}
-use Rattle.refusals.specs.Refusals.{log_full}
+use Rattle.refusals.specs.declared.Refusal.TheVariants.{LogFull}
 use Rattle.event_log.specs.Model.{State, Grown, from, Does}
 use Rattle.event_log.specs.Marks.{Inside, Finished, Pending, Last, Led}
 use Rattle.event_log.specs.Model.Does.{did, refused}
@@ -68,10 +70,15 @@ next_back never k c i g b e = absurd (let z : ◌≡◌ {A = ℕ} 0 1 = cc in om
 
 -- A token that was taken was there
 
-width_some : (k : ℕ) → 1 ≤ width k
-width_some k = cond_both (eqb (second k) 1) 1 _ (λ w. 1 ≤ w) (λ _. omega arith) (λ _. cond_both (eqb (third k) 1) 2 3 (λ w. 1 ≤ w) (λ _. omega arith) (λ _. omega arith))
+some_long : (r : RawTokens) → 1 ≤ length_of r
+some_long (One a) = omega arith
+some_long (Two a b) = omega arith
+some_long (Three a b c) = omega arith
 
-took_it : (t : Tree) (i : ℕ) (b c : Bool) (f : Forest) → cond b (elim c [ true ↦ ok (cons t nil) tt | false ↦ no (log_full i) ]) never ≡ ok f (tt {0}) → f ≡ cons t nil
+width_some : (k : ℕ) → 1 ≤ width k
+width_some k = some_long (parts k)
+
+took_it : (t : Tree) (i : ℕ) (b c : Bool) (f : Forest) → cond b (elim c [ true ↦ ok (cons t nil) tt | false ↦ no (LogFull i) ]) never ≡ ok f (tt {0}) → f ≡ cons t nil
 took_it t i true true f e = cc
 took_it t i true false f e = absurd (let z : ◌≡◌ {A = ℕ} 0 1 = cc in omega arith)
 took_it t i false c f e = absurd (let z : ◌≡◌ {A = ℕ} 0 1 = cc in omega arith)

@@ -13,7 +13,7 @@ use Rattle.event_log.specs.Program.{completed as completed_at}
 use Rattle.event_log.specs.Program.Prog.{give}
 use Rattle.event_log.specs.Program.Wraps.{end, see, ◌>-◌, around, many}
 use Rattle.event_log.specs.Program.Out.{ok, no, never}
-use Rattle.refusals.specs.Refusals.{log_full}
+use Rattle.refusals.specs.declared.Refusal.TheVariants.{LogFull}
 use Rattle.event_log.specs.Model.{State, faultless, Grown, from, Does}
 use Rattle.event_log.specs.Marks.{Starts, Inside, Open, Closed, Finished, Pending, Last, Winds, Precedes, Led, by_kind, only}
 use Rattle.event_log.specs.Model.Does.{did, refused}
@@ -223,7 +223,7 @@ no_lead : (body : Prog ℕ) {b : State} {n : Node} {c : CompletedMarker} {s t : 
 unfolding precede
 no_lead body {n = n} p (stuck h) =
     unwound (flat_node n None) (wide_node n)
-    (due_no _ _ _ _ (omega (arith, h.full, records p.grown, length_flat_node n None, ap (λ (e : Env). e.room) p.grown.same)) ∙ ap {B = _} (λ (i : ℕ). no (log_full i)) (sym p.grown.place) ∙ full_no h)
+    (due_no _ _ _ _ (omega (arith, h.full, records p.grown, length_flat_node n None, ap (λ (e : Env). e.room) p.grown.same)) ∙ ap {B = _} (λ (i : ℕ). no (LogFull i)) (sym p.grown.place) ∙ full_no h)
     (rw h.still p.grown)
 
 pub no_around : {body : Prog ℕ} {c : CompletedMarker} {s t : State} {e : Refusal} → ((b : State) (n : Node) → Pending b n c s → Led b n s t (Err e)) → Precedes by_kind (around body) c s t (Err e)

@@ -11,7 +11,7 @@ use Rattle.event_log.specs.declared.parser.Parser.{Parser}
 use Rattle.event_log.specs.declared.records.Log.{Log}
 use Rattle.event_log.specs.declared.records.Taken.{Taken}
 use Rattle.event_log.specs.declared.records.Checkpoint.{Checkpoint}
-use Rattle.refusals.specs.Refusals.{log_full}
+use Rattle.refusals.specs.declared.Refusal.TheVariants.{LogFull}
 use Rattle.event_log.specs.Forest.{Forest, flats, wides, blank}
 use Rattle.event_log.specs.Program.{Env, Prog, Out, run}
 use Rattle.event_log.specs.Program.Out.{ok, no}
@@ -70,7 +70,7 @@ Meets m p q r = Does m (of p.log) (of q.log) r
 -- the log is full
 pub record Full (s t : State) (e : Refusal) : Type 0 where
   pub full : s.env.room ≤ length s.recs
-  pub refusal : e ≡ log_full s.place
+  pub refusal : e ≡ LogFull s.place
   pub still : t ≡ s
 
 -- one record more

@@ -1,11 +1,13 @@
 -- The steps of a grammar, and what they come to on given tokens: a forest and an answer, or a refusal.
 use Rattle.std.specs.Prelude.{ℕ, zero, suc, ◌+◌, ◌-◌, Bool, true, false, cond, not, ◌&&◌, ◌||◌, List, length, Some, None, Option, ◌==◌, nat_lt, slice_index, slice_index_or}
 use Rattle.refusals.specs.declared.Refusal.{Refusal}
-use Rattle.refusals.specs.Refusals.{log_full}
+use Rattle.refusals.specs.declared.Refusal.TheVariants.{LogFull}
 use Rattle.tokens.specs.declared.rows.Row.{Row}
 use Rattle.tokens.specs.Kinds.{EOF}
 use Rattle.tokens.specs.Columns.{joint_in}
-use Rattle.tokens.specs.Parts.{first, second, third, width}
+use Rattle.tokens.specs.declared.composite.RawTokens.{RawTokens}
+use Rattle.tokens.specs.declared.composite.RawTokens.TheVariants.{One, Two, Three}
+use Rattle.tokens.specs.Parts.{parts, width}
 use Rattle.event_log.specs.Forest.{Node, Forest, ◌<>◌, flats, flat_node, wides, wide_node}
 use Rattle.event_log.specs.Forest.Tree.{token, error, whole, gone}
 use Rattle.event_log.specs.Forest.Node.{node, wrap}
@@ -84,13 +86,19 @@ edition_at e i = slice_index e.editions i
 abbrev pub joint_at : Env → ℕ → Bool
 joint_at e i = joint_in e.kinds e.joint i
 
--- the raw token at i is followed by one of this kind with no space between them, if a kind is asked for
+-- the raw token at i is followed by one of this kind with no space between them
 abbrev pub follows : Env → ℕ → ℕ → Bool
-follows e i k = k == EOF || (joint_at e i && kind_at e (i + 1) == k)
+follows e i k = joint_at e i && kind_at e (i + 1) == k
+
+-- these raw tokens are next, with no space between them
+unfoldable pub raw_ahead : Env → ℕ → RawTokens → Bool
+raw_ahead e i (One a) = kind_at e i == a
+raw_ahead e i (Two a b) = kind_at e i == a && follows e i b
+raw_ahead e i (Three a b c) = kind_at e i == a && (follows e i b && follows e (i + 1) c)
 
 -- a token of this kind is next
-unfoldable pub ahead : Env → ℕ → ℕ → Bool
-ahead e i k = kind_at e i == first k && (follows e i (second k) && follows e (i + 1) (third k))
+abbrev pub ahead : Env → ℕ → ℕ → Bool
+ahead e i k = raw_ahead e i (parts k)
 
 -- and it is not the end
 abbrev pub present : Env → ℕ → ℕ → Bool
@@ -121,7 +129,7 @@ next never k c i = never
 
 -- one record more, where there is room for it
 unfoldable pub record_due : {A : Type 0} → Env → ℕ → ℕ → Out A → Out A
-record_due e c i o = elim (nat_lt c e.room) [ true ↦ o | false ↦ no (log_full i) ]
+record_due e c i o = elim (nat_lt c e.room) [ true ↦ o | false ↦ no (LogFull i) ]
 
 -- the end of a node of this kind, which is not to be 0, at so many records and a place
 unfoldable pub completed : {A : Type 0} → Env → ℕ → ℕ → ℕ → Out A → Out A

@@ -2,7 +2,7 @@
 use Rattle.std.specs.Prelude.{◌≡◌, ℕ, zero, suc, ◌+◌, ◌-◌, ◌*◌, ◌/◌, ◌%◌, ◌^◌, ◌<◌, ◌≤◌, min, cond, ◌||◌, List, ◌++◌, map, length, drop, IfOk, Ok, Err, Result, ◌==◌, nat_lt, slice_index}
 use Rattle.std.specs.List.{range_with_len}
 use Rattle.tokens.specs.Limits.{max_tokens}
-use Rattle.refusals.specs.Refusals.{too_many_tokens, file_short, file_long, column_short}
+use Rattle.refusals.specs.declared.Refusal.TheVariants.{TooManyTokens, FileShort, FileLong, ColumnShort}
 use Rattle.refusals.specs.declared.Refusal.{Refusal}
 use Rattle.refusals.specs.declared.Layer.TheVariants.{File}
 
@@ -50,11 +50,11 @@ spare_of bytes n = number_at bytes (token_at n) (8 * bytes_for n - token_at n)
 -- how many tokens a file has, or why it is refused, whatever the columns
 abbrev pub tokens_of : List ℕ → Result ℕ Refusal
 tokens_of bytes =
-    cond (nat_lt (length bytes) 2) (Err file_short)
-    (cond (nat_lt max_tokens (count_of bytes)) (Err (too_many_tokens File))
-    (cond (nat_lt (length bytes) (bytes_for (count_of bytes))) (Err file_short)
-    (cond (nat_lt (bytes_for (count_of bytes)) (length bytes)) (Err file_long)
-    (cond (spare_of bytes (count_of bytes) == 0) (Ok (count_of bytes)) (Err file_long)))))
+    cond (nat_lt (length bytes) 2) (Err FileShort)
+    (cond (nat_lt max_tokens (count_of bytes)) (Err (TooManyTokens File))
+    (cond (nat_lt (length bytes) (bytes_for (count_of bytes))) (Err FileShort)
+    (cond (nat_lt (bytes_for (count_of bytes)) (length bytes)) (Err FileLong)
+    (cond (spare_of bytes (count_of bytes) == 0) (Ok (count_of bytes)) (Err FileLong)))))
 
 -- the words of the joint bits of n tokens
 abbrev pub words_for : ℕ → ℕ
@@ -63,7 +63,7 @@ words_for n = (n + 63) / 64
 -- the same in columns of these lengths, which may be too short for the tokens
 abbrev pub into_columns : ℕ → ℕ → ℕ → ℕ → Result ℕ Refusal → Result ℕ Refusal
 into_columns kinds contextual joint editions (Ok n) =
-    cond (nat_lt kinds n || (nat_lt contextual n || (nat_lt joint (words_for n) || nat_lt editions n))) (Err column_short) (Ok n)
+    cond (nat_lt kinds n || (nat_lt contextual n || (nat_lt joint (words_for n) || nat_lt editions n))) (Err ColumnShort) (Ok n)
 into_columns kinds contextual joint editions (Err e) = Err e
 
 -- the tokens that were read: none of a file that is refused

@@ -59,19 +59,19 @@ fn token_count(bytes: &[u8]) -> Result<usize, Refusal>
     ensures held { IfOk result (λ n. (n ≤ 4096) × (token_at n ≤ 8 * length bytes.now)) }
 {
     if bytes.len() < 2 {
-        return Err(Refusal::file_short());
+        return Err(Refusal::FileShort);
     }
     let count = usize::from(number(bytes, 0, COUNT_BITS));
     if count > MAX_TOKENS {
-        return Err(Refusal::too_many_tokens(Layer::File));
+        return Err(Refusal::TooManyTokens { layer: Layer::File });
     }
     let end = token_start(count);
     let size = end.div_ceil(8);
     if bytes.len() < size {
-        return Err(Refusal::file_short());
+        return Err(Refusal::FileShort);
     }
     if bytes.len() > size || number(bytes, end, 8 * size - end) != 0 {
-        return Err(Refusal::file_long());
+        return Err(Refusal::FileLong);
     }
     Ok(count)
 }
@@ -134,7 +134,7 @@ fn read_columns(
         || joint.len() < count.div_ceil(64)
         || editions.len() < count
     {
-        return Err(Refusal::column_short());
+        return Err(Refusal::ColumnShort);
     }
     read_kinds(bytes, 0, count, kinds);
     read_kinds(bytes, CONTEXTUAL, count, contextual);

@@ -24,22 +24,22 @@ fn short_files(rt: HostRuntime) {
     // The last has 4096 tokens, none of which are there.
     let files: [&[u8]; 5] = [&[], &[0], &[0, 1], &[0, 1, 3, 1], &[0x10, 0]];
     for bytes in files {
-        refused(&rt, bytes, Refusal::file_short());
+        refused(&rt, bytes, Refusal::FileShort);
     }
 }
 
 #[test]
 fn too_many_tokens(rt: HostRuntime) {
-    refused(&rt, &[0x10, 1], Refusal::too_many_tokens(Layer::File));
+    refused(&rt, &[0x10, 1], Refusal::TooManyTokens { layer: Layer::File });
 }
 
 #[test]
 fn long_files(rt: HostRuntime) {
     for spare in [1, 2, 4, 8, 16] {
-        refused(&rt, &[0, 1, 3, 1, 0x40 + spare], Refusal::file_long());
+        refused(&rt, &[0, 1, 3, 1, 0x40 + spare], Refusal::FileLong);
     }
-    refused(&rt, &[0, 0, 0], Refusal::file_long());
-    refused(&rt, &[0, 1, 3, 1, 0x40, 0], Refusal::file_long());
+    refused(&rt, &[0, 0, 0], Refusal::FileLong);
+    refused(&rt, &[0, 1, 3, 1, 0x40, 0], Refusal::FileLong);
 }
 
 #[test]
@@ -48,7 +48,7 @@ fn short_columns(rt: HostRuntime) {
     let mut c = [7; 2];
     let mut j = [7; 1];
     let mut e = [7; 2];
-    let short = Err(Refusal::column_short());
+    let short = Err(Refusal::ColumnShort);
     assert_eq!(rt; read_file(&TWO, &mut [7; 1], &mut c, &mut j, &mut e), short);
     assert_eq!(rt; read_file(&TWO, &mut k, &mut [7; 1], &mut j, &mut e), short);
     assert_eq!(rt; read_file(&TWO, &mut k, &mut c, &mut [], &mut e), short);
@@ -57,7 +57,7 @@ fn short_columns(rt: HostRuntime) {
     let spare = [0, 1, 3, 1, 0x41];
     assert_eq!(rt;
         read_file(&spare, &mut [], &mut [], &mut [], &mut []),
-        Err(Refusal::file_long())
+        Err(Refusal::FileLong)
     );
 }
 

@@ -6,7 +6,7 @@ use Rattle.tokens.specs.declared.input.Input.{Input}
 use Rattle.tokens.specs.declared.rows.Row.{Row}
 use Rattle.refusals.specs.declared.Refusal.{Refusal}
 use Rattle.refusals.specs.declared.Layer.TheVariants.{Input as input_layer}
-use Rattle.refusals.specs.Refusals.{too_many_tokens, column_length, wrong_kind, unlawful_row}
+use Rattle.refusals.specs.declared.Refusal.TheVariants.{TooManyTokens, ColumnLength, WrongKind, UnlawfulRow}
 use Rattle.tokens.specs.Kinds.{EOF}
 use Rattle.tokens.specs.Islands.{lawful_row, row_at, rows_fit}
 use Rattle.tokens.proofs.Laws.{all_below}
@@ -42,14 +42,14 @@ not_at_place r None h = refl
 not_at_place r (Some i) h = absurd (let z : ◌≡◌ {A = ℕ} 0 1 = cc in omega arith)
 
 module _ (i : Input) (n : ℕ) where
-  pub by_tokens : 4096 < length i.kinds.now → {e : Refusal} → e ≡ too_many_tokens input_layer → Some e ≡ verdict i n
+  pub by_tokens : 4096 < length i.kinds.now → {e : Refusal} → e ≡ TooManyTokens input_layer → Some e ≡ verdict i n
   by_tokens h p = ap (λ (x : Refusal). Some x) p ∙ sym (stops _ _ (when_yes _ _ (lt-ltb 4096 _ h)))
 
   module _ (few : length i.kinds.now ≤ 4096) where
-    past_tokens : verdict i n ≡ first_of (when (not (fits i n)) column_length ∷ (kinds_fault i.kinds.now ∷ (contextual_fault i.kinds.now i.contextual.now ∷ (editions_fault i.editions.now ∷ []))))
+    past_tokens : verdict i n ≡ first_of (when (not (fits i n)) ColumnLength ∷ (kinds_fault i.kinds.now ∷ (contextual_fault i.kinds.now i.contextual.now ∷ (editions_fault i.editions.now ∷ []))))
     past_tokens = passes _ _ (when_no _ _ (le-ltb 4096 _ few))
 
-    pub by_lengths : false ≡ fits i n → {e : Refusal} → e ≡ column_length → Some e ≡ verdict i n
+    pub by_lengths : false ≡ fits i n → {e : Refusal} → e ≡ ColumnLength → Some e ≡ verdict i n
     by_lengths h p = ap (λ (x : Refusal). Some x) p ∙ sym (past_tokens ∙ stops _ _ (when_yes _ _ (not_from_false _ (sym h))))
 
     module _ (fit : true ≡ fits i n) where
@@ -90,7 +90,7 @@ module _ (i : Input) (n : ℕ) where
   no_end h k lt e =
       let ks : List ℕ = i.kinds.now in
       let kinds : kinds_fault ks ≡ None = (unstopped _ _ (unstopped _ _ (unstopped _ _ h).1).1).0 in
-      let fine : no_kind (get_or ks k 0) ≡ false = none_below (λ j. no_kind (get_or ks j 0)) (length ks) k (not_at_place wrong_kind _ kinds) lt in
+      let fine : no_kind (get_or ks k 0) ≡ false = none_below (λ j. no_kind (get_or ks j 0)) (length ks) k (not_at_place WrongKind _ kinds) lt in
       both_ways (no_kind (get_or ks k 0)) fine (ap no_kind (get_or_default ks k 0 EOF lt ∙ e))
 
 -- columns that fit are as long as each other
@@ -109,14 +109,14 @@ abbrev pub unlawful_at : List ℕ → List Row → ℕ → Bool
 unlawful_at ks rows p = not (lawful_row ks p (row_at rows p))
 
 module _ (i : Input) (rows : ℕ) where
-  pub too_many : 4096 < length i.kinds.now → {e : Refusal} → e ≡ too_many_tokens input_layer → Some e ≡ row_count_fault i rows
+  pub too_many : 4096 < length i.kinds.now → {e : Refusal} → e ≡ TooManyTokens input_layer → Some e ≡ row_count_fault i rows
   too_many h p = ap (λ (x : Refusal). Some x) p ∙ sym (stops _ _ (when_yes _ _ (lt-ltb 4096 _ h)))
 
   module _ (few : length i.kinds.now ≤ 4096) where
-    past_many : row_count_fault i rows ≡ first_of (when (not (eqb rows (length i.kinds.now))) column_length ∷ [])
+    past_many : row_count_fault i rows ≡ first_of (when (not (eqb rows (length i.kinds.now))) ColumnLength ∷ [])
     past_many = passes _ _ (when_no _ _ (le-ltb 4096 _ few))
 
-    pub rows_differ : rows ≢ length i.kinds.now → {e : Refusal} → e ≡ column_length → Some e ≡ row_count_fault i rows
+    pub rows_differ : rows ≢ length i.kinds.now → {e : Refusal} → e ≡ ColumnLength → Some e ≡ row_count_fault i rows
     rows_differ h p = ap (λ (x : Refusal). Some x) p ∙ sym (past_many ∙ stops _ _ (when_yes _ _ (not_from_false _ (ne_eqb _ _ h))))
 
     pub row_each : rows ≡ length i.kinds.now → None ≡ row_count_fault i rows
@@ -144,9 +144,9 @@ module _ (i : Input) (rows : List Row) (n : ℕ) where
   pub rows_fine : verdict_with_rows i rows n ≡ None → rows_fit i.kinds.now rows ≡ true
   rows_fine h =
       let few : length i.kinds.now ≤ 4096 = few_tokens i n (columns_fine h) in
-      let as_many : when (not (eqb (length rows) (length i.kinds.now))) column_length ≡ None = (unstopped _ _ (sym (past_many i (length rows) few) ∙ (unstopped _ _ h).0)).0 in
+      let as_many : when (not (eqb (length rows) (length i.kinds.now))) ColumnLength ≡ None = (unstopped _ _ (sym (past_many i (length rows) few) ∙ (unstopped _ _ h).0)).0 in
       let same : eqb (length rows) (length i.kinds.now) ≡ true = not_false _ (not_when _ _ as_many) in
-      let none : first_below (unlawful_at i.kinds.now rows) (length rows) ≡ None = not_at_place unlawful_row _ (unstopped _ _ (unstopped _ _ (unstopped _ _ h).1).1).0 in
+      let none : first_below (unlawful_at i.kinds.now rows) (length rows) ≡ None = not_at_place UnlawfulRow _ (unstopped _ _ (unstopped _ _ (unstopped _ _ h).1).1).0 in
       and_from _ _ same (all_below (λ j. lawful_row i.kinds.now j (row_at rows j)) (length i.kinds.now)
       (λ j lt. not_false _ (none_below (unlawful_at i.kinds.now rows) (length rows) j none (omega (arith, eqb-true _ _ same)))))
     where

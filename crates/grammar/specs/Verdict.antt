@@ -8,7 +8,7 @@ use Rattle.tokens.specs.Kinds.{TOMBSTONE, EOF, DOLLAR, IDENT, SHEBANG}
 use Rattle.tokens.specs.Limits.{max_tokens}
 use Rattle.tokens.specs.Islands.{lawful_row, row_at}
 use Rattle.event_log.specs.Limits.{max_records}
-use Rattle.refusals.specs.Refusals.{too_many_tokens, column_length, wrong_kind, wrong_contextual_kind, wrong_edition, unlawful_row}
+use Rattle.refusals.specs.declared.Refusal.TheVariants.{TooManyTokens, ColumnLength, WrongKind, WrongContextualKind, WrongEdition, UnlawfulRow}
 
 -- the refusal of a check, if it refused
 abbrev pub fault : {A : Type 0} → Result A Refusal → Option Refusal
@@ -40,13 +40,13 @@ no_edition e = nat_lt 3 e
 -- the first token at fault by each check
 
 abbrev pub kinds_fault : List ℕ → Option Refusal
-kinds_fault ks = at_place wrong_kind (first_below (λ i. no_kind (slice_index ks i)) (length ks))
+kinds_fault ks = at_place WrongKind (first_below (λ i. no_kind (slice_index ks i)) (length ks))
 
 abbrev pub contextual_fault : List ℕ → List ℕ → Option Refusal
-contextual_fault ks cs = at_place wrong_contextual_kind (first_below (λ i. no_contextual (slice_index ks i) (slice_index cs i)) (length cs))
+contextual_fault ks cs = at_place WrongContextualKind (first_below (λ i. no_contextual (slice_index ks i) (slice_index cs i)) (length cs))
 
 abbrev pub editions_fault : List ℕ → Option Refusal
-editions_fault es = at_place wrong_edition (first_below (λ i. no_edition (slice_index es i)) (length es))
+editions_fault es = at_place WrongEdition (first_below (λ i. no_edition (slice_index es i)) (length es))
 
 -- the lengths are as they should be, for so many records
 abbrev pub fits : Input → ℕ → Bool
@@ -66,8 +66,8 @@ when b r = cond b (Some r) None
 -- Why these columns, with a log of so many records, are refused, if they are. Each check goes over all tokens before the next one.
 abbrev pub verdict : Input → ℕ → Option Refusal
 verdict i n = first_of (
-    when (nat_lt max_tokens (length i.kinds.now)) (too_many_tokens input_layer)
-    ∷ (when (not (fits i n)) column_length
+    when (nat_lt max_tokens (length i.kinds.now)) (TooManyTokens input_layer)
+    ∷ (when (not (fits i n)) ColumnLength
     ∷ (kinds_fault i.kinds.now
     ∷ (contextual_fault i.kinds.now i.contextual.now
     ∷ (editions_fault i.editions.now ∷ [])))))
@@ -76,13 +76,13 @@ verdict i n = first_of (
 
 -- the first row that breaks a law of islands
 abbrev pub rows_fault : List ℕ → List Row → Option Refusal
-rows_fault ks rows = at_place unlawful_row (first_below (λ i. not (lawful_row ks i (row_at rows i))) (length rows))
+rows_fault ks rows = at_place UnlawfulRow (first_below (λ i. not (lawful_row ks i (row_at rows i))) (length rows))
 
 -- why these columns are refused for their number of tokens, or since there is not one row for each token, if they are
 abbrev pub row_count_fault : Input → ℕ → Option Refusal
 row_count_fault i rows = first_of (
-    when (nat_lt max_tokens (length i.kinds.now)) (too_many_tokens input_layer)
-    ∷ (when (not (rows == length i.kinds.now)) column_length ∷ []))
+    when (nat_lt max_tokens (length i.kinds.now)) (TooManyTokens input_layer)
+    ∷ (when (not (rows == length i.kinds.now)) ColumnLength ∷ []))
 
 -- Why these columns are refused with these rows, if they are: another number of rows than of tokens is refused as other lengths are,
 -- and the first row that breaks a law of islands last.

@@ -17,10 +17,10 @@ pub fn check(input: Input, records: usize) -> Result<(), Refusal>
     ensures { fault result ≡ verdict input.entry records }
 {
     if input.kinds.len() > MAX_TOKENS {
-        return Err(Refusal::too_many_tokens(Layer::Input));
+        return Err(Refusal::TooManyTokens { layer: Layer::Input });
     }
     if !lengths_fit(input, records) {
-        return Err(Refusal::column_length());
+        return Err(Refusal::ColumnLength);
     }
     check_kinds(input.kinds)?;
     check_contextual(input.kinds, input.contextual)?;
@@ -41,10 +41,10 @@ fn check_row_count(input: Input, rows: usize) -> Result<(), Refusal>
     ensures { fault result ≡ row_count_fault input.entry rows }
 {
     if input.kinds.len() > MAX_TOKENS {
-        return Err(Refusal::too_many_tokens(Layer::Input));
+        return Err(Refusal::TooManyTokens { layer: Layer::Input });
     }
     if rows != input.kinds.len() {
-        return Err(Refusal::column_length());
+        return Err(Refusal::ColumnLength);
     }
     Ok(())
 }
@@ -87,7 +87,7 @@ fn check_kinds(kinds: &[u16]) -> Result<(), Refusal>
 {
     for (place, kind) in kinds.iter().enumerate() {
         if no_kind(*kind) {
-            return Err(Refusal::wrong_kind(place));
+            return Err(Refusal::WrongKind { place });
         }
     }
     Ok(())
@@ -99,7 +99,7 @@ fn check_contextual(kinds: &[u16], contextual: &[u16]) -> Result<(), Refusal>
 {
     for (place, other) in contextual.iter().enumerate() {
         if no_contextual(kinds[place], *other) {
-            return Err(Refusal::wrong_contextual_kind(place));
+            return Err(Refusal::WrongContextualKind { place });
         }
     }
     Ok(())
@@ -110,7 +110,7 @@ fn check_editions(editions: &[u8]) -> Result<(), Refusal>
 {
     for (place, edition) in editions.iter().enumerate() {
         if no_edition(*edition) {
-            return Err(Refusal::wrong_edition(place));
+            return Err(Refusal::WrongEdition { place });
         }
     }
     Ok(())
@@ -121,7 +121,7 @@ fn check_rows(kinds: &[u16], rows: &[Row]) -> Result<(), Refusal>
 {
     for (place, row) in rows.iter().enumerate() {
         if !lawful(kinds, place, row) {
-            return Err(Refusal::unlawful_row(place));
+            return Err(Refusal::UnlawfulRow { place });
         }
     }
     Ok(())

@@ -43,8 +43,8 @@ fn open_lengths(
 
 #[test]
 fn lengths(rt: HostRuntime) {
-    let many = Err(Refusal::too_many_tokens(Layer::Input));
-    let uneven = Err(Refusal::column_length());
+    let many = Err(Refusal::TooManyTokens { layer: Layer::Input });
+    let uneven = Err(Refusal::ColumnLength);
     let table = [
         (0, 0, 0, 0, Ok(())),
         (64, 64, 1, 64, Ok(())),
@@ -102,7 +102,7 @@ fn columns(rt: HostRuntime) {
         ([IDENT, EOF, EOF], 1),
     ];
     for (kinds, place) in kinds {
-        let refused = Err(Refusal::wrong_kind(place));
+        let refused = Err(Refusal::WrongKind { place });
         assert_eq!(rt; open_three(kinds, none, [0; 3]), refused);
         assert_eq!(rt; open_three(kinds, wrong, [4; 3]), refused);
     }
@@ -114,14 +114,14 @@ fn columns(rt: HostRuntime) {
         ([IDENT, DOT, IDENT], [DOLLAR; 3], 1),
     ];
     for (kinds, contextual, place) in contextual {
-        let refused = Err(Refusal::wrong_contextual_kind(place));
+        let refused = Err(Refusal::WrongContextualKind { place });
         assert_eq!(rt; open_three(kinds, contextual, [0; 3]), refused);
         assert_eq!(rt; open_three(kinds, contextual, [4; 3]), refused);
     }
     for (editions, place) in [([4, 0, 0], 0), ([0, 0, 4], 2), ([3, 255, 4], 1)] {
         assert_eq!(rt;
             open_three(idents, none, editions),
-            Err(Refusal::wrong_edition(place))
+            Err(Refusal::WrongEdition { place })
         );
     }
     assert_eq!(rt;
@@ -193,12 +193,12 @@ fn full_logs(rt: HostRuntime) -> Result<(), Fail> {
     let mut two = [Record::Finish; 2];
     let mut reading = Reading::new();
     open(&mut reading, UNIT, &mut none)?;
-    assert_eq!(rt; reading.skip(), Err(Refusal::log_full(0)));
+    assert_eq!(rt; reading.skip(), Err(Refusal::LogFull { place: 0 }));
     has_taken(&rt, &reading, &[]);
     open(&mut reading, UNIT, &mut two)?;
     assert_eq!(rt; reading.skip(), ONE);
     assert_eq!(rt; reading.skip(), ONE);
-    assert_eq!(rt; reading.skip(), Err(Refusal::log_full(2)));
+    assert_eq!(rt; reading.skip(), Err(Refusal::LogFull { place: 2 }));
     has_taken(&rt, &reading, &KINDS[..2]);
     Ok(())
 }
@@ -226,7 +226,7 @@ fn reopening(rt: HostRuntime) -> Result<(), Fail> {
     let records = match reading.open(uneven, &mut second) {
         Ok(()) => return Err(Fail::new("opened")),
         Err(unopened) => {
-            assert_eq!(rt; unopened.refusal, Refusal::column_length());
+            assert_eq!(rt; unopened.refusal, Refusal::ColumnLength);
             unopened.records
         }
     };
@@ -275,11 +275,11 @@ fn rows(rt: HostRuntime) {
     // nothing at all needs a fault, but for a literal
     let faultless = row(Answer::NOTHING);
     assert_eq!(rt; open_rows(&[fine, fine]), Ok(()));
-    assert_eq!(rt; open_rows(&[fine]), Err(Refusal::column_length()));
-    assert_eq!(rt; open_rows(&[fine; 3]), Err(Refusal::column_length()));
+    assert_eq!(rt; open_rows(&[fine]), Err(Refusal::ColumnLength));
+    assert_eq!(rt; open_rows(&[fine; 3]), Err(Refusal::ColumnLength));
     assert_eq!(rt;
         open_rows(&[fine, faultless]),
-        Err(Refusal::unlawful_row(1))
+        Err(Refusal::UnlawfulRow { place: 1 })
     );
-    assert_eq!(rt; open_rows(&[faultless; 2]), Err(Refusal::unlawful_row(0)));
+    assert_eq!(rt; open_rows(&[faultless; 2]), Err(Refusal::UnlawfulRow { place: 0 }));
 }

@@ -5,7 +5,7 @@ use Rattle.std.proofs.lemmas.List.{get_or-set_same, get_or-set_other}
 use Rattle.std.proofs.lemmas.List.FromFn.{fill_by_all}
 use Rattle.refusals.specs.declared.Refusal.{Refusal}
 use Rattle.refusals.specs.declared.Layer.TheVariants.{Input as input_layer}
-use Rattle.refusals.specs.Refusals.{too_many_tokens, column_length}
+use Rattle.refusals.specs.declared.Refusal.TheVariants.{TooManyTokens, ColumnLength}
 use Rattle.tokens.specs.declared.input.Input.{Input}
 use Rattle.tokens.specs.declared.rows.Hook.{Hook}
 use Rattle.tokens.specs.declared.rows.Hook.TheVariants.{Expr, BlockExpr, Literal, ExprBlockContents, Meta, Pattern, PatternSingle}
@@ -26,10 +26,10 @@ three false false r s None = refl
 three false false r s (Some x) = refl
 
 module _ (i : Input) (rows : ℕ) where
-  parts : fill_verdict i rows ≡ cond (ltb 4096 (length i.kinds.now)) (Some (too_many_tokens input_layer)) (cond (not (eqb rows (length i.kinds.now))) (Some column_length) (verdict i 0))
+  parts : fill_verdict i rows ≡ cond (ltb 4096 (length i.kinds.now)) (Some (TooManyTokens input_layer)) (cond (not (eqb rows (length i.kinds.now))) (Some ColumnLength) (verdict i 0))
   parts = three _ _ _ _ _
 
-  pub rows_differ : {e : Refusal} → length i.kinds.now ≤ 4096 → (rows ≡ length i.kinds.now → ⊥) → e ≡ column_length → Some e ≡ fill_verdict i rows
+  pub rows_differ : {e : Refusal} → length i.kinds.now ≤ 4096 → (rows ≡ length i.kinds.now → ⊥) → e ≡ ColumnLength → Some e ≡ fill_verdict i rows
   rows_differ few h p =
       ap (λ (x : Refusal). Some x) p
       ∙ sym (parts ∙ cond-false _ _ _ (le-ltb 4096 _ few) ∙ cond-true _ _ _ (not_from_false _ (ne_eqb _ _ h)))

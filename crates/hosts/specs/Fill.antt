@@ -3,7 +3,7 @@ use Rattle.std.specs.Prelude.{◌≡◌, ℕ, ◌<◌, true, not, List, [], ◌�
 use Rattle.std.specs.List.{range_with_len}
 use Rattle.refusals.specs.declared.Refusal.{Refusal}
 use Rattle.refusals.specs.declared.Layer.TheVariants.{Input as input_layer}
-use Rattle.refusals.specs.Refusals.{too_many_tokens, column_length}
+use Rattle.refusals.specs.declared.Refusal.TheVariants.{TooManyTokens, ColumnLength}
 use Rattle.tokens.specs.declared.input.Input.{Input}
 use Rattle.tokens.specs.declared.rows.Hook.{Hook}
 use Rattle.tokens.specs.declared.rows.Hook.TheVariants.{Expr, BlockExpr, Literal, ExprBlockContents, Meta, Pattern, PatternSingle}
@@ -17,8 +17,8 @@ use Rattle.hosts.specs.Host.{Columns, columns}
 -- Why these columns, with so many rows, are refused, if they are: too many tokens, then another number of rows than of tokens, then as they are opened.
 abbrev pub fill_verdict : Input → ℕ → Option Refusal
 fill_verdict i rows = first_of (
-    when (nat_lt max_tokens (length i.kinds.now)) (too_many_tokens input_layer)
-    ∷ (when (not (rows == length i.kinds.now)) column_length
+    when (nat_lt max_tokens (length i.kinds.now)) (TooManyTokens input_layer)
+    ∷ (when (not (rows == length i.kinds.now)) ColumnLength
     ∷ (verdict i 0 ∷ [])))
 
 -- the seven answers of a host at a place

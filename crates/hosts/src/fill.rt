@@ -30,7 +30,7 @@ fn check_rows(input: Input, rows: usize) -> Result<(), Refusal>
 {
     let tokens = input.kinds.len();
     if tokens <= MAX_TOKENS && rows != tokens {
-        return Err(Refusal::column_length());
+        return Err(Refusal::ColumnLength);
     }
     check(input, 0)
 }

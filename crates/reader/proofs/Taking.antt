@@ -5,7 +5,7 @@ use Rattle.event_log.specs.declared.records.Log.{Log}
 use Rattle.event_log.specs.declared.records.Taken.{Taken}
 use Rattle.refusals.specs.declared.Refusal.{Refusal}
 use Rattle.tokens.specs.Kinds.{EOF}
-use Rattle.refusals.specs.Refusals.{log_full}
+use Rattle.refusals.specs.declared.Refusal.TheVariants.{LogFull}
 use Rattle.event_log.specs.Forest.{Forest, wide, wides}
 use Rattle.event_log.specs.Forest.Tree.{token}
 use Rattle.event_log.specs.Forest.Forest.{nil, cons}
@@ -23,13 +23,13 @@ use Rattle.reader.specs.List.TakesAll.{stuck}
 data Bumped (e : Env) (i : ℕ) : Out (Unit {0}) → Type 0 where
   at_end : {a : Unit {0}} → kind_at e i ≡ EOF → Bumped e i (ok nil a)
   one : {a : Unit {0}} (k : ℕ) → Bumped e i (ok (cons (token k 1) nil) a)
-  full : Bumped e i (no (log_full i))
+  full : Bumped e i (no (LogFull i))
 
 bumped : (e : Env) (c i : ℕ) → Bumped e i (run bump_any e c i)
 unfolding run record_due
 bumped e c i = go (eqb (kind_at e i) EOF) refl
   where
-    due : (b : Bool) → Bumped e i (elim b [ true ↦ ok (cons (token (kind_at e i) 1) nil) (tt {0}) | false ↦ no (log_full i) ])
+    due : (b : Bool) → Bumped e i (elim b [ true ↦ ok (cons (token (kind_at e i) 1) nil) (tt {0}) | false ↦ no (LogFull i) ])
     due true = one (kind_at e i)
     due false = full
 
@@ -44,7 +44,7 @@ ends e i o (at_end h) p z = h
 ends e i o {f} (one k) p z = absurd (let q : cons (token k 1) nil ≡ f = cc in omega (arith, ap wides q, z))
 ends e i o full p z = absurd (let q : ◌≡◌ {A = ℕ} 0 1 = cc in omega arith)
 
-stops : (e : Env) (i : ℕ) (o : Out (Unit {0})) {r : Refusal} → Bumped e i o → o ≡ no r → r ≡ log_full i
+stops : (e : Env) (i : ℕ) (o : Out (Unit {0})) {r : Refusal} → Bumped e i o → o ≡ no r → r ≡ LogFull i
 stops e i o (at_end h) p = absurd (let q : ◌≡◌ {A = ℕ} 0 1 = cc in omega arith)
 stops e i o (one k) p = absurd (let q : ◌≡◌ {A = ℕ} 0 1 = cc in omega arith)
 stops e i o full p = cc

@@ -8,7 +8,7 @@ use Rattle.event_log.specs.declared.records.Log.{Log}
 use Rattle.refusals.specs.declared.Refusal.{Refusal}
 use Rattle.refusals.specs.declared.Layer.TheVariants.{File}
 use Rattle.tokens.specs.Kinds.{EOF}
-use Rattle.refusals.specs.Refusals.{too_many_tokens, log_full}
+use Rattle.refusals.specs.declared.Refusal.TheVariants.{TooManyTokens, LogFull}
 use Rattle.event_log.specs.Program.{kind_at}
 use Rattle.event_log.specs.Model.{env, env_of}
 use Rattle.event_log.specs.Tell.{tell}
@@ -37,7 +37,7 @@ pub record AllTaken (l m : Log) : Type 0 where
 -- every token is taken, or the log is full
 pub data TakesAll (l m : Log) : Result (Unit {0}) Refusal → Type 0 where
   taken : {x : Unit {0}} → AllTaken l m → TakesAll l m (Ok x)
-  stuck : {e : Refusal} (place : ℕ) → e ≡ log_full place → TakesAll l m (Err e)
+  stuck : {e : Refusal} (place : ℕ) → e ≡ LogFull place → TakesAll l m (Err e)
 
 -- these columns hold the n tokens of a file
 pub record HoldsFile (bytes : List ℕ) (n : ℕ) (i : Input) : Type 0 where
@@ -49,11 +49,11 @@ pub record HoldsFile (bytes : List ℕ) (n : ℕ) (i : Input) : Type 0 where
 -- A file is refused as too long, as no token file, or for its tokens, and nothing is told then; nor is it where the log is full. Otherwise
 -- some records were made that are lawful for all tokens of the file, and what they tell is told: all of it, or as much as the sink has room for.
 pub data Lists (size : Item → ℕ) (bytes : List ℕ) (s t : Heard) : Result (Unit {0}) Refusal → Type 0 where
-  too_long : {e : Refusal} → max_bytes < length bytes → e ≡ too_many_tokens File → t ≡ s → Lists size bytes s t (Err e)
+  too_long : {e : Refusal} → max_bytes < length bytes → e ≡ TooManyTokens File → t ≡ s → Lists size bytes s t (Err e)
   unread : {e : Refusal} → length bytes ≤ max_bytes → read_from bytes ≡ Err e → t ≡ s → Lists size bytes s t (Err e)
   unopened : {e : Refusal} {n : ℕ} (i : Input) → length bytes ≤ max_bytes → read_from bytes ≡ Ok n → HoldsFile bytes n i → verdict i records ≡ Some e
       → t ≡ s → Lists size bytes s t (Err e)
   full : {e : Refusal} {n : ℕ} (i : Input) (place : ℕ) → length bytes ≤ max_bytes → read_from bytes ≡ Ok n → HoldsFile bytes n i → verdict i records ≡ None
-      → e ≡ log_full place → t ≡ s → Lists size bytes s t (Err e)
+      → e ≡ LogFull place → t ≡ s → Lists size bytes s t (Err e)
   told : {r : Result (Unit {0}) Refusal} {n : ℕ} (i : Input) (rs : List Record) → length bytes ≤ max_bytes → read_from bytes ≡ Ok n → HoldsFile bytes n i
       → verdict i records ≡ None → Lawful (env_of i records) n (tell rs) → TellsAll size rs s t r → Lists size bytes s t r

@@ -46,7 +46,7 @@ pub fn list<S: Sink>(bytes: &[u8], sink: &mut S) -> Result<(), Refusal>
     ensures { Lists (amounts S.size) bytes.now (S.heard sink.old) (S.heard sink.new) result }
 {
     if too_long(bytes) {
-        return Err(Refusal::too_many_tokens(Layer::File));
+        return Err(Refusal::TooManyTokens { layer: Layer::File });
     }
     let mut kinds = [0; TOKENS];
     let mut contextual = [0; TOKENS];

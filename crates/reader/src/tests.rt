@@ -37,12 +37,12 @@ fn refused(rt: HostRuntime) {
     let kind = [0, 3, 3, 1, 0, 0x80, 0x24, 0, 0x05, 0x80];
     let contextual = [0, 3, 3, 1, 0, 0x80, 0x44, 0x14, 0x05, 0x80];
     let files: [(&[u8], Refusal); 6] = [
-        (&[], Refusal::file_short()),
-        (&[0], Refusal::file_short()),
-        (&[0, 0, 0], Refusal::file_long()),
-        (&[0; 2434], Refusal::file_long()),
-        (&kind, Refusal::wrong_kind(2)),
-        (&contextual, Refusal::wrong_contextual_kind(1)),
+        (&[], Refusal::FileShort),
+        (&[0], Refusal::FileShort),
+        (&[0, 0, 0], Refusal::FileLong),
+        (&[0; 2434], Refusal::FileLong),
+        (&kind, Refusal::WrongKind { place: 2 }),
+        (&contextual, Refusal::WrongContextualKind { place: 1 }),
     ];
     for (bytes, refusal) in files {
         lists(&rt, bytes, 32, Err(refusal), b"");
@@ -59,7 +59,7 @@ fn short_listings(rt: HostRuntime) {
         (17, 2, b"= 3 1\n= 4 1\n"),
     ];
     for (room, place, lines) in told {
-        lists(&rt, &THREE, room, Err(Refusal::sink_full(place)), lines);
+        lists(&rt, &THREE, room, Err(Refusal::SinkFull { place }), lines);
     }
 }
 
@@ -101,7 +101,7 @@ fn too_long(rt: HostRuntime) {
     bytes[0] = 4;
     bytes[1] = 1;
     pack(&mut bytes, 1025);
-    let refusal = Refusal::too_many_tokens(Layer::File);
+    let refusal = Refusal::TooManyTokens { layer: Layer::File };
     lists(&rt, &bytes, 32, Err(refusal), b"");
     lists(&rt, &[0; 2435], 32, Err(refusal), b"");
 }

@@ -7,7 +7,7 @@ use Rattle.event_log.specs.declared.event.Record.{Record}
 use Rattle.event_log.specs.declared.event.Record.TheVariants.{Start}
 use Rattle.event_log.specs.declared.item.Item.{Item}
 use Rattle.refusals.specs.declared.Refusal.{Refusal}
-use Rattle.refusals.specs.Refusals.{sink_full}
+use Rattle.refusals.specs.declared.Refusal.TheVariants.{SinkFull}
 use Rattle.event_log.specs.Tell.{enters, tell_each, joined, unused, tell_from, tell, teller}
 use Rattle.sinks.specs.declared.sink.Full.{Full}
 use Rattle.sinks.specs.Sink.{Heard, fitting, Tells}
@@ -90,9 +90,9 @@ not_all (full l i n) = l
 
 -- A record that cannot be told whole.
 pub so_far_stop : {size : Item → ℕ} {rs : List Record} {i : ℕ} {marks ms ns : List ℕ} {s t u : Heard} {e : Full} {f : Refusal}
-    → SoFar size rs i marks ms s t → TellsRecord size rs i ms ns t u (Err e) → f ≡ sink_full i → TellsAll size rs s u (Err f)
+    → SoFar size rs i marks ms s t → TellsRecord size rs i ms ns t u (Err e) → f ≡ SinkFull i → TellsAll size rs s u (Err f)
 unfolding tell_from joined
-so_far_stop {size} {rs} {i} {marks} {ms} {ns} {s} {t} {u} {e} h r p = part e whole (p ∙ ap sink_full (sym place))
+so_far_stop {size} {rs} {i} {marks} {ms} {ns} {s} {t} {u} {e} h r p = part e whole (p ∙ ap SinkFull (sym place))
   where
     after : List (List Item)
     after = each_from rs (used (length rs) ns) (suc i)

@@ -3,7 +3,7 @@ use Rattle.std.proofs.Common.{◌≡◌, ℕ, ◌<◌, ◌≤◌, List, ◌++◌
 use Rattle.event_log.specs.declared.event.Record.{Record}
 use Rattle.event_log.specs.declared.item.Item.{Item}
 use Rattle.refusals.specs.declared.Refusal.{Refusal}
-use Rattle.refusals.specs.Refusals.{marks_short}
+use Rattle.refusals.specs.declared.Refusal.TheVariants.{MarksShort}
 use Rattle.event_log.specs.Tell.{unused}
 use Rattle.sinks.specs.Sink.{Heard}
 use Rattle.sinks.specs.Walk.{cleared, used, TellsAll, Walks}
@@ -21,7 +21,7 @@ pub walks_of : {size : Item → ℕ} {qs rs : List Record} {l m : List ℕ} {s t
 walks_of e h = rw e at h
 
 module _ {size : Item → ℕ} (rs : List Record) (l : List ℕ) {s : Heard} where
-  pub too_few : {e : Refusal} → length l < length rs → e ≡ marks_short → Walks size rs l l s s (Err e)
+  pub too_few : {e : Refusal} → length l < length rs → e ≡ MarksShort → Walks size rs l l s s (Err e)
   too_few lt p = no_marks lt p refl refl
 
   pub all_told : (k : List ℕ) {m n : List ℕ} {t : Heard} {r : Result (Unit {0}) Refusal} → length rs ≤ length l → m ≡ cleared (length rs) l → TellsAll size rs s t r

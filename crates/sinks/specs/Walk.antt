@@ -5,7 +5,7 @@ use Rattle.event_log.specs.declared.event.Record.TheVariants.{Start, Finish, Tok
 use Rattle.event_log.specs.declared.item.Item.{Item}
 use Rattle.event_log.specs.declared.records.Log.{Log}
 use Rattle.refusals.specs.declared.Refusal.{Refusal}
-use Rattle.refusals.specs.Refusals.{marks_short, sink_full}
+use Rattle.refusals.specs.declared.Refusal.TheVariants.{MarksShort, SinkFull}
 use Rattle.event_log.specs.Program.{Env}
 use Rattle.event_log.specs.Model.{env}
 use Rattle.event_log.specs.Tell.{climb, use_up, nearer, tell_each, unused, tell, teller}
@@ -84,7 +84,7 @@ each rs = tell_each rs (unused rs)
 -- All that these records tell is told; or as much of it as fits, and the refusal names the record that tells the first item that does not fit.
 pub data TellsAll (size : Item → ℕ) (rs : List Record) (s t : Heard) : Result (Unit {0}) Refusal → Type 0 where
   all : {x : Unit {0}} → Tells size (tell rs) s t (Ok x) → TellsAll size rs s t (Ok x)
-  part : {e : Refusal} (full : Full) → Tells size (tell rs) s t (Err full) → e ≡ sink_full (teller (length (fitting size s.room (tell rs))) (each rs))
+  part : {e : Refusal} (full : Full) → Tells size (tell rs) s t (Err full) → e ≡ SinkFull (teller (length (fitting size s.room (tell rs))) (each rs))
       → TellsAll size rs s t (Err e)
 
 -- A walk: with fewer marks than records nothing is told and no mark is touched; otherwise the records are told, and the first marks, one for
@@ -92,7 +92,7 @@ pub data TellsAll (size : Item → ℕ) (rs : List Record) (s t : Heard) : Resul
 pub data Walks (size : Item → ℕ) (rs : List Record) (before after : List ℕ) (s t : Heard) : Result (Unit {0}) Refusal → Type 0 where
   walked : {r : Result (Unit {0}) Refusal} → length rs ≤ length before → TellsAll size rs s t r → after ≡ cleared (length rs) before
       → Walks size rs before after s t r
-  no_marks : {e : Refusal} → length before < length rs → e ≡ marks_short → after ≡ before → t ≡ s → Walks size rs before after s t (Err e)
+  no_marks : {e : Refusal} → length before < length rs → e ≡ MarksShort → after ≡ before → t ≡ s → Walks size rs before after s t (Err e)
 
 -- The law of what an accepted walk told, for these tokens and this place: its tokens spell the raw tokens from the first one up to the
 -- place, each raw token in exactly one of them; each enter has one leave and each leave one enter; two nodes are nested or disjoint.

@@ -32,7 +32,7 @@ pub fn process<S: Sink>(records: &[Record], marks: &mut [u8], sink: &mut S) -> R
 {
     let count = records.len();
     if !has_marks(marks, count) {
-        return Err(Refusal::marks_short());
+        return Err(Refusal::MarksShort);
     }
     clear(marks, count);
     let r = tell(records, marks, sink);
@@ -66,7 +66,7 @@ fn tell<S: Sink>(records: &[Record], marks: &mut [u8], sink: &mut S) -> Result<(
 {
     for at in 0..records.len() {
         if let Err(_) = tell_record(records, at, marks, sink) {
-            return Err(Refusal::sink_full(at));
+            return Err(Refusal::SinkFull { place: at });
         }
     }
     Ok(())

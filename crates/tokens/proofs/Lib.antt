@@ -6,3 +6,5 @@ pub mod Members
 pub mod Tables
 -- what the laws of rows say of each answer
 pub mod Laws
+-- what composite tokens are made of
+pub mod Composites

@@ -101,7 +101,9 @@ impl<'a> Parser<'a> {
         ensures { Pushes entry (of self.old.log) (of self.new.log) result }
     {
         if !self.has_room() {
-            return Err(Refusal::log_full(self.log.place));
+            return Err(Refusal::LogFull {
+                place: self.log.place,
+            });
         }
         let count = self.log.count;
         let clean = stays_clean(self.log.clean, entry);

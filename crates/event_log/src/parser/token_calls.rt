@@ -9,7 +9,7 @@ ghost use Rattle.event_log.specs.Steps.{bump as bumps, eat as eats, bump_any, bu
 use super::Parser;
 use crate::event::{EXPECTED_KIND, Record};
 use refusals::Refusal;
-use tokens::composite::{parts, width};
+use tokens::composite::{RawTokens, parts, width};
 use tokens::syntax_kind::{EOF, TOMBSTONE};
 
 impl<'a> Parser<'a> {
@@ -28,28 +28,32 @@ impl<'a> Parser<'a> {
         self.log.input.kind(self.log.place + n)
     }
 
-    /// A raw token of this kind follows the one at this place with no space between them, if a kind is asked for.
+    /// A raw token of this kind follows the one at this place, with no space between them.
     fn follows(&self, place: usize, kind: u16) -> bool
         requires { place ≤ 4100 }
         ensures { result ≡ follows_at (env self.now.log) place kind }
     {
-        kind == EOF || (self.log.input.is_joint(place) && self.log.input.kind(place + 1) == kind)
+        self.log.input.is_joint(place) && self.log.input.kind(place + 1) == kind
     }
 
     /// A token of this kind begins n raw tokens ahead; asked for `:` at `::`, the answer is yes.
+    #[tactic(auto, unfolding(crate::specs::Program::raw_ahead))]
     pub fn nth_at(&self, n: usize, kind: u16) -> bool
         requires { n ≤ 3 }
         ensures { ahead (env self.now.log) (self.now.log.place + n) kind ≡ result }
     {
-        let (first, second, third) = parts(kind);
         let place = self.log.place + n;
-        if self.log.input.kind(place) != first {
-            return false;
+        match parts(kind) {
+            RawTokens::One(first) => self.log.input.kind(place) == first,
+            RawTokens::Two(first, second) => {
+                self.log.input.kind(place) == first && self.follows(place, second)
+            }
+            RawTokens::Three(first, second, third) => {
+                self.log.input.kind(place) == first
+                    && self.follows(place, second)
+                    && self.follows(place + 1, third)
+            }
         }
-        if !self.follows(place, second) {
-            return false;
-        }
-        self.follows(place + 1, third)
     }
 
     /// A token of this kind is next.

@@ -6,7 +6,7 @@ use Rattle.event_log.proofs.parser.Parser.push.Goals as goal
 pub returns-then-not-has_room : goal.returns-then-not-has_room
 returns-then-not-has_room c =
     let p = c.args.self.now in
-    stuck (record { full = omega (arith, count_is p.log (sound_of p), ltb-false _ _ c.if-not-has_room.ensures); refusal = c.log_full.ensures; still = refl })
+    stuck (record { full = omega (arith, count_is p.log (sound_of p), ltb-false _ _ c.if-not-has_room.ensures); refusal = refl; still = refl })
 
 pub invariant_of-self : goal.invariant_of-self
 invariant_of-self c =
