@@ -24,9 +24,5 @@ pub fn tree(kind: u16, run: Run) -> Answer
 pub fn ahead(kinds: &[u16], place: usize) -> &[u16]
     ensures { result.now ≡ drop place kinds.now }
 {
-    if place < kinds.len() {
-        &kinds[place..]
-    } else {
-        &[]
-    }
+    kinds.get(place..).unwrap_or(&[])
 }

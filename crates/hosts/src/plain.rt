@@ -45,10 +45,7 @@ fn answer_ahead(hook: Hook, ahead: &[u16]) -> Answer
 fn first_kind(ahead: &[u16]) -> u16
     ensures { result ≡ slice_index_or ahead.now 0 end_of_file }
 {
-    match ahead {
-        [kind, ..] => *kind,
-        [] => EOF,
-    }
+    ahead.first().copied().unwrap_or(EOF)
 }
 
 /// A node of this kind around one token.

@@ -50,19 +50,19 @@ impl Run {
 fn opens_bracket(kind: u16) -> bool
     ensures { result ≡ opens_bracket kind }
 {
-    kind == L_PAREN || kind == L_BRACK || kind == L_CURLY
+    matches!(kind, L_PAREN | L_BRACK | L_CURLY)
 }
 
 fn closes_bracket(kind: u16) -> bool
     ensures { result ≡ closes_bracket kind }
 {
-    kind == R_PAREN || kind == R_BRACK || kind == R_CURLY
+    matches!(kind, R_PAREN | R_BRACK | R_CURLY)
 }
 
 fn is_mark(kind: u16) -> bool
     ensures { result ≡ is_mark kind }
 {
-    kind == COMMA || kind == SEMICOLON || kind == EQ || kind == COLON
+    matches!(kind, COMMA | SEMICOLON | EQ | COLON)
 }
 
 /// A token of this kind ends a run, outside brackets.
