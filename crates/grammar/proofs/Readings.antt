@@ -1,14 +1,13 @@
 -- A reading from call to call: that some list of calls has led to it.
-use Rattle.std.proofs.Common.{◌≡◌, ℕ, List, [], ◌∷◌, ◌++◌, map, length, take, drop, Result, sym, refl, ap, ◌∙◌, arith, take_at}
+use Rattle.std.proofs.Common.{◌≡◌, ℕ, List, [], ◌∷◌, ◌++◌, map, length, take, Result, sym, refl, ap, ◌∙◌, take_at}
 use mathlib.Core.Logic.{∥∥₁_map}
 use Rattle.event_log.specs.declared.event.Record.{Record}
 use Rattle.event_log.specs.declared.parser.Parser.{Parser}
 use Rattle.event_log.specs.declared.records.Taken.{Taken}
-use Rattle.event_log.specs.declared.records.Checkpoint.{Checkpoint}
 use Rattle.refusals.specs.declared.Refusal.{Refusal}
 use Rattle.event_log.specs.Program.{Env, Prog, Out, run}
 use Rattle.event_log.specs.Program.Out.{ok, no}
-use Rattle.event_log.specs.Model.{of, env, Holds, Does, Begins, Concludes, Performs}
+use Rattle.event_log.specs.Model.{of, env, Holds, Performs}
 use Rattle.event_log.specs.Model.Performs.{performed, refused}
 use Rattle.event_log.specs.Reading.{Call as program_call, Reading, begun, kept, called, after}
 use Rattle.event_log.specs.Reading.Call.{call}
