@@ -1,5 +1,5 @@
 -- The first number that passes a test, as a loop finds it.
-use Rattle.std.proofs.Common.{◌≡◌, ℕ, zero, suc, ◌+◌, ◌-◌, ◌<◌, ◌≤◌, Bool, true, false, cond, ◌⊎◌, List, length, get_or, Some, None, Option, Result, sym, refl, ap, ◌∙◌, inl, inr, subst, ⊎_elim, add-zero, add-suc, arith}
+use Rattle.std.proofs.Common.{◌≡◌, ℕ, zero, suc, ◌+◌, ◌-◌, ◌<◌, ◌≤◌, Bool, true, false, cond, ◌⊎◌, List, length, get_or, Some, None, Option, Result, sym, refl, ap, ◌∙◌, inl, inr, subst, ⊎_elim, add-zero, add-suc, add-one, arith}
 use Rattle.std.proofs.lemmas.Bool.{cases_lt}
 use Rattle.std.proofs.lemmas.List.{get_or_default}
 use Rattle.refusals.specs.declared.Refusal.{Refusal}
@@ -18,9 +18,12 @@ first_suc : (p : ℕ → Bool) (n : ℕ) → first_below p (suc n) ≡ next p n 
 unfolding first_below
 first_suc p n = elim (first_below p n) as (λ o. ◌≡◌ {A = Option ℕ} (elim o [ None ↦ cond (p n) (Some n) None | Some i ↦ Some i ]) (next p n o)) [ None ↦ refl | Some i ↦ refl ]
 
-none_yet : (p : ℕ → Bool) → first_below p 0 ≡ None
+pub none_yet : (p : ℕ → Bool) → first_below p 0 ≡ None
 unfolding first_below
 none_yet p = refl
+
+pub none_more : (p : ℕ → Bool) (i : ℕ) → first_below p i ≡ None → p i ≡ false → first_below p (i + 1) ≡ None
+none_more p i h e = rw add-one (first_suc p i ∙ ap (next p i) h ∙ ap (λ (b : Bool). cond b (Some i) None) e)
 
 -- none where there is none at any of them
 none_of : (p : ℕ → Bool) (n : ℕ) → ((i : ℕ) → i < n → p i ≡ false) → first_below p n ≡ None
@@ -36,7 +39,7 @@ found_suc : (p : ℕ → Bool) (i k : ℕ) → first_below p i ≡ None → p i 
 found_suc p i zero h e = rw (add-zero (suc i)) (first_suc p i ∙ ap (next p i) h ∙ ap (λ (b : Bool). cond b (Some i) None) e)
 found_suc p i (suc k) h e = rw (add-suc (suc i) k) (first_suc p (suc i + k) ∙ ap (next p (suc i + k)) (found_suc p i k h e))
 
-found : (p : ℕ → Bool) (i n : ℕ) → first_below p i ≡ None → p i ≡ true → i < n → first_below p n ≡ Some i
+pub found : (p : ℕ → Bool) (i n : ℕ) → first_below p i ≡ None → p i ≡ true → i < n → first_below p n ≡ Some i
 found p i n h e lt = ap (first_below p) more ∙ found_suc p i (n - suc i) h e
   where
     more : n ≡ suc i + (n - suc i)
