@@ -19,11 +19,7 @@ use Rattle.event_log.specs.Marks.Finished.{completed as answered, passed as hand
 use Rattle.event_log.specs.Marks.Led.{led, stuck as not_led}
 use Rattle.event_log.proofs.Trees.{front, back, flat_node_is, own_is}
 use Rattle.event_log.proofs.Growth.{faultless_start, grown_then, grown_as, records}
-use Rattle.event_log.proofs.Slots.{count_is, sound_of}
-
--- how many records a parser has
-pub counted : (p : Parser) → length (of p.log).recs ≡ p.log.count
-counted p = count_is p.log (sound_of p)
+use Rattle.event_log.proofs.Slots.{counted}
 
 -- One record more
 
@@ -34,13 +30,13 @@ no_start (stuck h) (Err f) p = rw p (not_started h)
 pub starts : {s t : State} {m : Marker} {x : Unit {0}} → m.at ≡ length s.recs → Pushes blank s t (Ok x) → Starts s t (Ok m)
 starts at (pushed lt g) = started at lt g
 
-pub count_pushed : {r : Record} (p q : Parser) {x : Unit {0}} → Pushes r (of p.log) (of q.log) (Ok x) → q.log.count ≡ p.log.count + 1
+pub count_pushed : {r : Record} (p q : Parser) {x : Unit {0}} → Pushes r (of p) (of q) (Ok x) → q.count ≡ p.count + 1
 count_pushed p q (pushed lt g) = omega (arith, counted p, counted q, records g)
 
 pub started_at : {s t : State} {m : Marker} → Starts s t (Ok m) → m.at ≡ length s.recs
 started_at (started at lt g) = at
 
-pub count_started : (p q : Parser) {m : Marker} → Starts (of p.log) (of q.log) (Ok m) → q.log.count ≡ p.log.count + 1
+pub count_started : (p q : Parser) {m : Marker} → Starts (of p) (of q) (Ok m) → q.count ≡ p.count + 1
 count_started p q (started at lt g) = omega (arith, counted p, counted q, records g)
 
 -- A start that is written over another one

@@ -1,26 +1,22 @@
 -- What the calls that write into the log leave in it.
-use Rattle.std.proofs.Common.{◌≡◌, ℕ, zero, suc, ◌+◌, ◌-◌, ◌<◌, ◌≤◌, true, false, ◌&&◌, eqb, List, [], ◌∷◌, ◌++◌, length, take, drop, set, replicate, Some, None, Ok, Err, Result, sym, refl, ap, ◌∙◌, append_assoc, append-nil, add-one, arith, length-append, length-drop, length-set, take-append-drop, drop_of_length-le, length-take-le, drop-cons, get_or-set_same, drop-drop, drop-set-lt, drop_at}
+use Rattle.std.proofs.Common.{◌≡◌, ℕ, zero, suc, ◌+◌, ◌-◌, ◌<◌, ◌≤◌, true, false, ◌&&◌, eqb, List, [], ◌∷◌, ◌++◌, length, take, drop, set, replicate, Some, None, Ok, Err, Result, sym, refl, ap, ◌∙◌, add-one, arith, length-append, length-drop, length-set, length-take-le, drop-cons, get_or-set_same, drop-drop, drop-set-lt, drop_at}
 use lib.ListN.{length-replicate, replicate-append-replicate}
-use lib.Seq.{set_at}
-use Rattle.std.proofs.lemmas.List.{drop-replicate, replicate_more}
+use Rattle.std.proofs.lemmas.List.{drop-replicate}
 use Rattle.std.proofs.lemmas.Bool.{and_parts, and_right, both_ways, eqb-true}
 use Rattle.event_log.specs.declared.event.Record.{Record}
 use Rattle.event_log.specs.declared.event.Record.TheVariants.{Start, Finish, Token, Error}
 use Rattle.refusals.specs.declared.Refusal.{Refusal}
 use Rattle.event_log.specs.declared.parser.Parser.{Parser}
-use Rattle.event_log.specs.declared.records.Log.{Log}
 use Rattle.event_log.specs.declared.records.Taken.{Taken}
 use Rattle.event_log.specs.declared.records.Checkpoint.{Checkpoint}
-use Rattle.event_log.specs.Sound.{is_blank, all_blank, Sound}
+use Rattle.event_log.specs.Sound.{is_blank, all_blank}
 use Rattle.event_log.specs.Forest.{blank}
 use Rattle.event_log.specs.Model.{of, blanked, filled, PutsBack, Concludes}
 use Rattle.event_log.specs.Model.Concludes.{accepted, taken_back}
 
-pub sound_of : (p : Parser) → Sound p.log
-sound_of p = record { within = p.within; roomy = p.roomy; short = p.short; few = p.few; inside = p.inside; blanks = p.blanks }
-
-pub count_is : (l : Log) → Sound l → length (of l).recs ≡ l.count
-count_is l h = length-take-le l.count l.records.now (let a = h.within in let b = h.roomy in omega arith)
+-- how many records a parser has
+pub counted : (p : Parser) → length (of p).recs ≡ p.count
+counted p = length-take-le p.count p.records.now (omega (arith, p.within, p.roomy))
 
 pub kept : (l : List Record) (i : ℕ) (r : Record) {n : ℕ} → n ≤ length l → n ≤ length (set l i r)
 kept l i r h = rw length-set h
@@ -55,11 +51,11 @@ blanks_are l n h = all_blank_are (drop n l) h ∙ ap (λ (k : ℕ). replicate k 
 are_blanks : (l : List Record) (n : ℕ) → BlankFrom l n → all_blank (drop n l) ≡ true
 are_blanks l n h = ap all_blank h ∙ are_all_blank (length l - n)
 
--- and one record more leaves the others so
-pub blanks_push : (l : List Record) (n : ℕ) (r : Record) → all_blank (drop n l) ≡ true → all_blank (drop (n + 1) (set l n r)) ≡ true
-blanks_push l n r h = are_blanks (set l n r) (n + 1) (
-    drop-set-lt (n + 1) l n r (omega arith) ∙ sym (drop-drop 1 n l) ∙ ap (drop 1) (blanks_are l n h) ∙ drop-replicate 1 (length l - n) blank
-    ∙ ap (λ (k : ℕ). replicate k blank) (omega (arith, length-set l n r)))
+-- and past the next one too
+pub blanks_after : (l : List Record) (n : ℕ) → all_blank (drop n l) ≡ true → all_blank (drop (n + 1) l) ≡ true
+blanks_after l n h = are_blanks l (n + 1) (
+    sym (drop-drop 1 n l) ∙ ap (drop 1) (blanks_are l n h) ∙ drop-replicate 1 (length l - n) blank
+    ∙ ap (λ (k : ℕ). replicate k blank) (omega arith))
 
 pub blanks_set : (l : List Record) (n i : ℕ) (r : Record) → i < n → all_blank (drop n l) ≡ true → all_blank (drop n (set l i r)) ≡ true
 blanks_set l n i r lt h = ap all_blank (drop-set-lt n l i r lt) ∙ h
@@ -80,41 +76,10 @@ blanks_filled l m n h e = are_blanks m n (ap (drop n) e ∙ drop_at (take n l) _
     more : length l - length (take n l) ≡ length m - n
     more = omega (arith, front, ap length e ∙ length-append (take n l) (replicate (length l - length (take n l)) blank), length-replicate (length l - length (take n l)) blank)
 
--- One record more is blank
-
-pub blanked_none : (l : List Record) (n : ℕ) → l ≡ blanked l n n
-blanked_none l n = sym (ap (λ (k : ℕ). take n l ++ (replicate k blank ++ drop n l)) none ∙ take-append-drop n l)
-  where
-    none : n - n ≡ 0
-    none = omega arith
-
-pub blanked_more : (l : List Record) (from at : ℕ) → from ≤ at → at < length l → set (blanked l from at) at blank ≡ blanked l from (at + 1)
-blanked_more l from at h lt =
-    ap (λ (xs : List Record). set xs at blank) (sym (append_assoc front done (drop at l)) ∙ ap (λ (xs : List Record). (front ++ done) ++ xs) (drop-cons l at blank lt))
-    ∙ set_at (front ++ done) _ (drop (suc at) l) blank at long
-    ∙ append_assoc front done (blank ∷ drop (suc at) l)
-    ∙ ap (λ (xs : List Record). front ++ xs) (sym (append_assoc done (blank ∷ []) (drop (suc at) l)) ∙ rw (← add-one) (ap (λ (xs : List Record). xs ++ drop (at + 1) l) more))
-  where
-    front : List Record
-    front = take from l
-
-    done : List Record
-    done = replicate (at - from) blank
-
-    long : length (front ++ done) ≡ at
-    long = length-append front done ∙ omega (arith, length-take-le from l (omega arith), length-replicate (at - from) blank)
-
-    more : done ++ blank ∷ [] ≡ replicate (at + 1 - from) blank
-    more = replicate_more (at - from) blank ∙ ap (λ (k : ℕ). replicate k blank) (omega arith)
-
--- all of a log
-pub blanked_all : (l : List Record) → blanked l 0 (length l) ≡ replicate (length l) blank
-blanked_all l = ap (λ (xs : List Record). replicate (length l - 0) blank ++ xs) (drop_of_length-le l (omega arith)) ∙ append-nil _ ∙ ap (λ (k : ℕ). replicate k blank) (omega arith)
-
 -- the records from one index on are blank, where those past the count were so already
-pub put_back : (l : List Record) (from n : ℕ) {m : List Record} {at : ℕ} → m ≡ blanked l from at → at ≡ n → from ≤ n → n ≤ length l → all_blank (drop n l) ≡ true → m ≡ filled (take from l) (length l)
-put_back l from n e i h k b =
-    e ∙ ap (blanked l from) i ∙ ap (λ (xs : List Record). take from l ++ (replicate (n - from) blank ++ xs)) (blanks_are l n b)
+pub put_back : (l : List Record) (from n : ℕ) {m : List Record} → m ≡ blanked l from n → from ≤ n → n ≤ length l → all_blank (drop n l) ≡ true → m ≡ filled (take from l) (length l)
+put_back l from n e h k b =
+    e ∙ ap (λ (xs : List Record). take from l ++ (replicate (n - from) blank ++ xs)) (blanks_are l n b)
     ∙ ap (λ (xs : List Record). take from l ++ xs) (replicate-append-replicate (n - from) (length l - n) blank ∙ ap (λ (k : ℕ). replicate k blank) more)
   where
     more : n - from + (length l - n) ≡ length l - length (take from l)
@@ -122,12 +87,12 @@ put_back l from n e i h k b =
 
 -- The end of a call
 
-pub concludes_ok : {c : Checkpoint} {l : Log} {t : Taken} (r : Result (Unit {0}) Refusal) → ((e : Refusal) → r ≡ Err e → ⊥)
+pub concludes_ok : {c : Checkpoint} {l : Parser} {t : Taken} (r : Result (Unit {0}) Refusal) → ((e : Refusal) → r ≡ Err e → ⊥)
     → t.tokens ≡ l.place - c.place → t.clean ≡ l.clean → Concludes c l l r (Ok t)
 concludes_ok (Ok x) h a b = accepted refl a b
 concludes_ok (Err e) h a b = absurd (h e refl)
 
-pub concludes_no : {c : Checkpoint} {l m : Log} {e : Refusal} {r : Result (Unit {0}) Refusal} → r ≡ Err e → PutsBack c l m → Concludes c l m r (Err e)
+pub concludes_no : {c : Checkpoint} {l m : Parser} {e : Refusal} {r : Result (Unit {0}) Refusal} → r ≡ Err e → PutsBack c l m → Concludes c l m r (Err e)
 concludes_no e h = rw e (taken_back h)
 
 -- all blank from the start

@@ -34,10 +34,10 @@ pub data Closed (b : State) (rs : List Record) (w k : ℕ) (s t : State) : Resul
   unclosed : {e : Refusal} (more : List Record) → 0 < k → Full s t e → Grown b t more w → Closed b rs w k s t (Err e)
 
 abbrev pub Completes : Marker → ℕ → Parser → Parser → Result CompletedMarker Refusal → Type 0
-Completes m k p q r = (b : State) (rs : List Record) (w : ℕ) → Inside b rs w m (of p.log) → Closed b rs w k (of p.log) (of q.log) r
+Completes m k p q r = (b : State) (rs : List Record) (w : ℕ) → Inside b rs w m (of p) → Closed b rs w k (of p) (of q) r
 
 abbrev pub Abandons : Marker → Parser → Parser → Type 0
-Abandons m p q = (b : State) (rs : List Record) (w : ℕ) → Inside b rs w m (of p.log) → Grown b (of q.log) (left_in rs) w
+Abandons m p q = (b : State) (rs : List Record) (w : ℕ) → Inside b rs w m (of p) → Grown b (of q) (left_in rs) w
 
 -- A kind is not 0, where one was answered.
 abbrev pub Named : Result (Option ℕ) Refusal → Type 0
@@ -53,7 +53,7 @@ pub data Settled (b : State) (rs : List Record) (w : ℕ) (s t : State) : Result
   passed : {e : Refusal} (more : List Record) → Grown b t more w → Settled b rs w s t (Err e) (Err e)
 
 abbrev pub Settles : Marker → Parser → Parser → Result (Option ℕ) Refusal → Result (Option CompletedMarker) Refusal → Type 0
-Settles m p q r x = (b : State) (rs : List Record) (w : ℕ) → Inside b rs w m (of p.log) → Settled b rs w (of p.log) (of q.log) r x
+Settles m p q r x = (b : State) (rs : List Record) (w : ℕ) → Inside b rs w m (of p) → Settled b rs w (of p) (of q) r x
 
 -- The node gets this kind; a refusal of its body is handed on.
 pub data Finished {A : Type 0} (b : State) (rs : List Record) (w k : ℕ) (s t : State) : Result A Refusal → Result CompletedMarker Refusal → Type 0 where
@@ -61,7 +61,7 @@ pub data Finished {A : Type 0} (b : State) (rs : List Record) (w k : ℕ) (s t :
   passed : {e : Refusal} (more : List Record) → Grown b t more w → Finished b rs w k s t (Err e) (Err e)
 
 abbrev pub Finishes : {A : Type 0} → Marker → ℕ → Parser → Parser → Result A Refusal → Result CompletedMarker Refusal → Type 0
-Finishes m k p q r x = (b : State) (rs : List Record) (w : ℕ) → Inside b rs w m (of p.log) → Finished b rs w k (of p.log) (of q.log) r x
+Finishes m k p q r x = (b : State) (rs : List Record) (w : ℕ) → Inside b rs w m (of p) → Finished b rs w k (of p) (of q) r x
 
 -- and the marker is let go
 abbrev pub let_go : Result CompletedMarker Refusal → Result (Unit {0}) Refusal
@@ -69,8 +69,8 @@ let_go (Ok c) = Ok tt
 let_go (Err e) = Err e
 
 abbrev pub Closes : {A : Type 0} → Marker → ℕ → Parser → Parser → Result A Refusal → Result (Unit {0}) Refusal → Type 0
-Closes m k p q r x = (b : State) (rs : List Record) (w : ℕ) → Inside b rs w m (of p.log)
-    → (y : Result CompletedMarker Refusal) × Finished b rs w k (of p.log) (of q.log) r y × (x ≡ let_go y)
+Closes m k p q r x = (b : State) (rs : List Record) (w : ℕ) → Inside b rs w m (of p)
+    → (y : Result CompletedMarker Refusal) × Finished b rs w k (of p) (of q) r y × (x ≡ let_go y)
 
 -- All that there is since b is the node n, and the marker is at its own start.
 pub record Pending (b : State) (n : Node) (c : CompletedMarker) (t : State) : Type 0 where
@@ -100,7 +100,7 @@ abbrev pub Picks : Prog (Option ℕ) → Parser → Parser → Result (Option �
 Picks m p q r = Meets m p q r × Named r
 
 abbrev pub Extends : {X A : Type 0} → (X → CompletedMarker × A) → Wraps A → CompletedMarker → Parser → Parser → Result X Refusal → Type 0
-Extends show w c p q r = Precedes show w c (of p.log) (of q.log) r
+Extends show w c p q r = Precedes show w c (of p) (of q) r
 
 -- the start of a node that precedes n was put after it
 pub data Led (b : State) (n : Node) (s t : State) : Result Marker Refusal → Type 0 where
@@ -109,7 +109,7 @@ pub data Led (b : State) (n : Node) (s t : State) : Result Marker Refusal → Ty
   stuck : {e : Refusal} → Full s t e → Led b n s t (Err e)
 
 abbrev pub Leads : CompletedMarker → Parser → Parser → Result Marker Refusal → Type 0
-Leads c p q r = (b : State) (n : Node) → Pending b n c (of p.log) → Led b n (of p.log) (of q.log) r
+Leads c p q r = (b : State) (n : Node) → Pending b n c (of p) → Led b n (of p) (of q) r
 
 -- the answer of a call is the marker, and the program's is the kind
 abbrev pub by_kind : CompletedMarker → CompletedMarker × ℕ

@@ -8,9 +8,9 @@ use Rattle.tokens.specs.declared.input.Input.{Input}
 use Rattle.tokens.specs.declared.rows.Row.{Row}
 use Rattle.refusals.specs.declared.Refusal.{Refusal}
 use Rattle.event_log.specs.declared.parser.Parser.{Parser}
-use Rattle.event_log.specs.declared.records.Log.{Log}
 use Rattle.event_log.specs.declared.records.Taken.{Taken}
 use Rattle.event_log.specs.declared.records.Checkpoint.{Checkpoint}
+use Rattle.tokens.specs.Islands.{rows_fit}
 use Rattle.refusals.specs.declared.Refusal.TheVariants.{LogFull}
 use Rattle.event_log.specs.Forest.{Forest, flats, wides, blank}
 use Rattle.event_log.specs.Program.{Env, Prog, Out, run}
@@ -24,7 +24,11 @@ env_with_rows i rows n = record { kinds = i.kinds.now; contextual = i.contextual
 abbrev pub env_of : Input → ℕ → Env
 env_of i n = env_with_rows i [] n
 
-abbrev pub env : Log → Env
+-- There is a lawful row for each token. This holds of a parser with rows alone, so it is none of what holds of each.
+abbrev pub Rowed : Parser → Type 0
+Rowed l = rows_fit l.input.kinds.now l.rows.now ≡ true
+
+abbrev pub env : Parser → Env
 env l = env_with_rows l.input l.rows.now l.room
 
 -- All that the definitions see of a log. What lies past its count is not seen.
@@ -36,7 +40,7 @@ pub record State : Type 0 where
   -- how many records there are in all, blank ones too
   pub long : ℕ
 
-abbrev pub of : Log → State
+abbrev pub of : Parser → State
 of l = record { recs = list.take l.count l.records.now; place = l.place; clean = l.clean; env = env l; long = length l.records.now }
 
 -- there is no error among these records
@@ -65,7 +69,7 @@ pub data Does {A : Type 0} (m : Prog A) (s t : State) : Result A Refusal → Typ
 
 -- The same of parsers: a call that meets a program.
 abbrev pub Meets : {A : Type 0} → Prog A → Parser → Parser → Result A Refusal → Type 0
-Meets m p q r = Does m (of p.log) (of q.log) r
+Meets m p q r = Does m (of p) (of q) r
 
 -- the log is full
 pub record Full (s t : State) (e : Refusal) : Type 0 where
@@ -87,14 +91,14 @@ abbrev pub filled : List Record → ℕ → List Record
 filled rs n = rs ++ replicate (n - length rs) blank
 
 -- These records and this place, with the tokens, the room and the length of the log as before.
-pub record Holds (l m : Log) (rs : List Record) (i : ℕ) : Type 0 where
+pub record Holds (l m : Parser) (rs : List Record) (i : ℕ) : Type 0 where
   pub log : m.records.now ≡ filled rs (length l.records.now)
   pub count : m.count ≡ length rs
   pub place : m.place ≡ i
   pub same : env m ≡ env l
 
 -- A log before the first of these tokens, with these rows, over these records.
-pub record Begun (input : Input) (rows : List Row) (records : MutBor (List Record)) (l : Log) : Type 0 where
+pub record Begun (input : Input) (rows : List Row) (records : MutBor (List Record)) (l : Parser) : Type 0 where
   pub over : l.records ≡ records
   pub count : l.count ≡ 0
   pub place : l.place ≡ 0
@@ -102,7 +106,7 @@ pub record Begun (input : Input) (rows : List Row) (records : MutBor (List Recor
   pub same : env l ≡ env_with_rows input rows (length records.now)
 
 -- A log before the first of these tokens, with so many records, all blank.
-pub record New (input : Input) (n : ℕ) (l : Log) : Type 0 where
+pub record New (input : Input) (n : ℕ) (l : Parser) : Type 0 where
   pub log : l.records.now ≡ replicate n blank
   pub count : l.count ≡ 0
   pub place : l.place ≡ 0
@@ -110,7 +114,7 @@ pub record New (input : Input) (n : ℕ) (l : Log) : Type 0 where
   pub same : env l ≡ env_of input n
 
 -- The same, with these rows.
-pub record NewWithRows (input : Input) (rows : List Row) (n : ℕ) (l : Log) : Type 0 where
+pub record NewWithRows (input : Input) (rows : List Row) (n : ℕ) (l : Parser) : Type 0 where
   pub log : l.records.now ≡ replicate n blank
   pub count : l.count ≡ 0
   pub place : l.place ≡ 0
@@ -118,29 +122,29 @@ pub record NewWithRows (input : Input) (rows : List Row) (n : ℕ) (l : Log) : T
   pub same : env l ≡ env_with_rows input rows n
 
 -- A call begins: nothing is at fault yet, and where it began is kept.
-pub record Begins (l m : Log) (c : Checkpoint) : Type 0 where
+pub record Begins (l m : Parser) (c : Checkpoint) : Type 0 where
   pub seen : of m ≡ record { recs = (of l).recs; place = l.place; clean = true; env = env l; long = length l.records.now }
   pub whole : m.records.now ≡ l.records.now
   pub place : c.place ≡ l.place
   pub count : c.count ≡ l.count
 
 -- the call that began here has not gone back behind it
-pub record Since (c : Checkpoint) (l : Log) : Type 0 where
+pub record Since (c : Checkpoint) (l : Parser) : Type 0 where
   pub place : c.place ≤ l.place
   pub count : c.count ≤ l.count
 
 -- place and count are put back, and the records after that are blank again
-abbrev pub PutsBack : Checkpoint → Log → Log → Type 0
+abbrev pub PutsBack : Checkpoint → Parser → Parser → Type 0
 PutsBack c l m = Holds l m (list.take c.count l.records.now) c.place
 
 -- A call ends: accepted, its answer is read off; refused, all that it left is taken back.
-pub data Concludes (c : Checkpoint) (l m : Log) : Result (Unit {0}) Refusal → Result Taken Refusal → Type 0 where
+pub data Concludes (c : Checkpoint) (l m : Parser) : Result (Unit {0}) Refusal → Result Taken Refusal → Type 0 where
   accepted : {a : Unit {0}} {t : Taken} → m ≡ l → t.tokens ≡ l.place - c.place → t.clean ≡ l.clean → Concludes c l m (Ok a) (Ok t)
   taken_back : {e : Refusal} → PutsBack c l m → Concludes c l m (Err e) (Err e)
 
 -- What a whole call does: the answer, the place, the count and every record to the end of the log are those that the program comes to.
 -- Refused, the records, the count and the place are as before.
-pub data Performs {A : Type 0} (p : Prog A) (l m : Log) : Result Taken Refusal → Type 0 where
+pub data Performs {A : Type 0} (p : Prog A) (l m : Parser) : Result Taken Refusal → Type 0 where
   performed : {t : Taken} (f : Forest) (a : A) → from p (of l) ≡ ok f a
       → Holds l m ((of l).recs ++ flats f) (l.place + wides f)
       → t.tokens ≡ wides f → t.clean ≡ faultless (flats f) → Performs p l m (Ok t)

@@ -1,8 +1,13 @@
 -- The first number that passes a test, as a loop finds it.
-use Rattle.std.proofs.Common.{◌≡◌, ℕ, zero, suc, ◌+◌, ◌-◌, ◌<◌, ◌≤◌, Bool, true, false, cond, ◌⊎◌, Some, None, Option, sym, refl, ap, ◌∙◌, inl, inr, add-zero, add-suc, add-one, arith}
+use Rattle.std.proofs.Common.{◌≡◌, ℕ, zero, suc, ◌+◌, ◌-◌, ◌<◌, ◌≤◌, Bool, true, false, cond, ◌⊎◌, List, length, get_or, Some, None, Option, Result, sym, refl, ap, ◌∙◌, inl, inr, subst, ⊎_elim, add-zero, add-suc, add-one, arith}
 use Rattle.std.proofs.lemmas.Bool.{cases_lt}
+use Rattle.std.proofs.lemmas.List.{get_or_default}
 use Rattle.refusals.specs.declared.Refusal.{Refusal}
-use Rattle.grammar.specs.Verdict.{first_below, at_place}
+use Rattle.std.specs.Borrow.{Bor}
+use denote.Param.Members.{Shared}
+use Rattle.grammar.specs.Verdict.{fault, first_below, at_place}
+use Rattle.grammar.specs.Each.{Answers, Checks}
+use Rattle.grammar.specs.Each.Checks.{fine, refused}
 
 -- what the first one below n decides, and what n decides where there is none
 abbrev next : (ℕ → Bool) → ℕ → Option ℕ → Option ℕ
@@ -20,6 +25,15 @@ none_yet p = refl
 pub none_more : (p : ℕ → Bool) (i : ℕ) → first_below p i ≡ None → p i ≡ false → first_below p (i + 1) ≡ None
 none_more p i h e = rw add-one (first_suc p i ∙ ap (next p i) h ∙ ap (λ (b : Bool). cond b (Some i) None) e)
 
+-- none where there is none at any of them
+none_of : (p : ℕ → Bool) (n : ℕ) → ((i : ℕ) → i < n → p i ≡ false) → first_below p n ≡ None
+none_of p zero h = none_yet p
+none_of p (suc n) h = first_suc p n ∙ ap (next p n) (none_of p n (λ i lt. h i (omega (arith, lt)))) ∙ ap (λ (b : Bool). cond b (Some n) None) (h n (omega arith))
+
+-- what holds of those below n, and of n, holds of those below the next one
+pub one_more : {P : ℕ → Type 0} {n : ℕ} → ((i : ℕ) → i < n → P i) → P n → (i : ℕ) → i < n + 1 → P i
+one_more {P} {n} h a i lt = ⊎_elim (h i) (λ ge. subst P (let e : n ≡ i = omega (arith, lt, ge) in e) a) (cases_lt i n)
+
 -- the one that was found is the first, however far one looks
 found_suc : (p : ℕ → Bool) (i k : ℕ) → first_below p i ≡ None → p i ≡ true → first_below p (suc i + k) ≡ Some i
 found_suc p i zero h e = rw (add-zero (suc i)) (first_suc p i ∙ ap (next p i) h ∙ ap (λ (b : Bool). cond b (Some i) None) e)
@@ -30,13 +44,6 @@ found p i n h e lt = ap (first_below p) more ∙ found_suc p i (n - suc i) h e
   where
     more : n ≡ suc i + (n - suc i)
     more = omega arith
-
--- and a loop that refuses there
-pub refused_at : (r : ℕ → Refusal) (p : ℕ → Bool) (i n : ℕ) {e : Refusal} → e ≡ r i → first_below p i ≡ None → p i ≡ true → i < n → Some e ≡ at_place r (first_below p n)
-refused_at r p i n q h e lt = ap (λ (x : Refusal). Some x) q ∙ sym (ap (at_place r) (found p i n h e lt))
-
-pub none_at : (r : ℕ → Refusal) (p : ℕ → Bool) {i n : ℕ} → first_below p i ≡ None → i ≡ n → None ≡ at_place r (first_below p n)
-none_at r p h e = sym (ap (at_place r) (ap (first_below p) (sym e) ∙ h))
 
 -- where none was found, none passes
 none_next : (p : ℕ → Bool) (n : ℕ) (o : Option ℕ) → next p n o ≡ None → (o ≡ None) × (p n ≡ false)
@@ -54,3 +61,23 @@ none_below p (suc n) i h lt = go (cases_lt i n) (none_next p n (first_below p n)
     go : (i < n) ⊎ (n ≤ i) → (first_below p n ≡ None) × (p n ≡ false) → (first_below p n ≡ None → i < n → p i ≡ false) → p i ≡ false
     go (inl l) e r = r e.0 l
     go (inr g) e r = ap p (let q : i ≡ n = omega arith in q) ∙ e.1
+
+-- A check of each entry refuses the first one that is wrong, as a test of the places and the entries says.
+pub checked : {W R T : Type 0} {g : Shared W (ℕ × (Bor T × Unit {0})) Bool} {h : Shared R (ℕ × Unit {0}) Refusal} {column : List T} {wrong : W} {refusal : R}
+    → {x : Result (Unit {0}) Refusal} (d : T) (t : ℕ → T → Bool) (r : ℕ → Refusal)
+    → ((i : ℕ) (y : Bor T) (b : Bool) → i < length column → g.post wrong (i, (y, tt)) b → t i y.now ≡ b)
+    → ((i : ℕ) (e : Refusal) → h.post refusal (i, tt) e → e ≡ r i)
+    → Checks g h column wrong refusal x → fault x ≡ at_place r (first_below (λ i. t i (get_or column i d)) (length column))
+checked {g = g} {h} {column} {wrong} {refusal} d t r test named k = go k
+  where
+    p : ℕ → Bool
+    p i = t i (get_or column i d)
+
+    answered : (i : ℕ) (b : Bool) → i < length column → Answers g wrong column i b → p i ≡ b
+    answered i b lt a = ap (t i) (get_or_default column i d a.entry.now lt ∙ sym a.stands) ∙ test i a.entry b lt a.says
+
+    go : {x : Result (Unit {0}) Refusal} → Checks g h column wrong refusal x → fault x ≡ at_place r (first_below p (length column))
+    go (fine none) = sym (ap (at_place r) (none_of p (length column) (λ i lt. answered i false lt (none i lt))))
+    go (refused {e} {n} none lt one said) =
+        ap (λ (f : Refusal). Some f) (named n e said)
+        ∙ sym (ap (at_place r) (found p n (length column) (none_of p n (λ i l. answered i false (omega (arith, l, lt)) (none i l))) (answered n true lt one) lt))

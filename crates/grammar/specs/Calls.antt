@@ -1,6 +1,6 @@
--- The calls on a reading, and which logs they lead to.
+-- The calls on a reading, and where they lead.
 use Rattle.std.specs.Prelude.{◌≡◌, List, map}
-use Rattle.event_log.specs.declared.records.Log.{Log}
+use Rattle.event_log.specs.declared.parser.Parser.{Parser}
 use Rattle.event_log.specs.Steps.{bump_any}
 use Rattle.event_log.specs.Model.{of, env}
 use Rattle.event_log.specs.Reading.{Call as program_call, Reading, begun, after}
@@ -13,14 +13,14 @@ pub data Call : Type 0 where
 abbrev pub program : Call → program_call
 program skip = call bump_any
 
--- a log's records and place
-abbrev pub seen : Log → Reading
+-- a parser's records and place
+abbrev pub seen : Parser → Reading
 seen l = record { log = (of l).recs; place = l.place }
 
 -- this list of calls since it was opened, refused ones too, has led here
-abbrev pub Leads : Log → List Call → Type 0
+abbrev pub Leads : Parser → List Call → Type 0
 Leads l cs = after (env l) (map program cs) begun ≡ seen l
 
 -- some list of calls has
-abbrev pub Reached : Log → Type 0
+abbrev pub Reached : Parser → Type 0
 Reached l = ∥ ((cs : List Call) × Leads l cs) ∥₁

@@ -4,3 +4,5 @@ pub mod Verdict
 pub mod Calls
 -- what opening a reading does
 pub mod Open
+-- a check of each entry of a column
+pub mod Each

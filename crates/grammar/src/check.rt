@@ -1,6 +1,7 @@
 //! Whether columns can be read.
 
-ghost use Rattle.std.specs.Prelude.{◌≡◌, ◌≤◌, length};
+ghost use Rattle.std.specs.Prelude.{◌≡◌, ◌<◌, ◌≤◌, length};
+ghost use Rattle.grammar.specs.Each.{Checks};
 ghost use Rattle.grammar.specs.Verdict.{fault, verdict, verdict_with_rows, row_count_fault, fits, no_kind, no_contextual, no_edition, kinds_fault, contextual_fault, editions_fault, rows_fault};
 
 use event_log::records::MAX_RECORDS;
@@ -37,7 +38,7 @@ pub fn check_with_rows(input: Input, rows: &[Row], records: usize) -> Result<(),
 }
 
 /// There is one row for each token, of which there are not too many.
-fn check_row_count(input: Input, rows: usize) -> Result<(), Refusal>
+pub fn check_row_count(input: Input, rows: usize) -> Result<(), Refusal>
     ensures { fault result ≡ row_count_fault input.entry rows }
 {
     if input.kinds.len() > MAX_TOKENS {
@@ -82,47 +83,61 @@ fn no_edition(edition: u8) -> bool
     edition > LAST_EDITION
 }
 
-fn check_kinds(kinds: &[u16]) -> Result<(), Refusal>
-    ensures { fault result ≡ kinds_fault kinds.now }
+/// Refuses the first entry that is wrong at its place.
+fn check_each<T, W: Fn(usize, &T) -> bool, R: Fn(usize) -> Refusal>(
+    column: &[T],
+    wrong: W,
+    refusal: R,
+) -> Result<(), Refusal>
+    requires asked { (i : _) (x : _) → i < length column.now → W.pre wrong i x }
+    requires refused { R.IsAlwaysCallable refusal }
+    ensures { Checks W.Fn R.Fn column.now wrong refusal result }
 {
-    for (place, kind) in kinds.iter().enumerate() {
-        if no_kind(*kind) {
-            return Err(Refusal::WrongKind { place });
+    for (place, entry) in column.iter().enumerate() {
+        if wrong(place, entry) {
+            return Err(refusal(place));
         }
     }
     Ok(())
+}
+
+fn check_kinds(kinds: &[u16]) -> Result<(), Refusal>
+    ensures { fault result ≡ kinds_fault kinds.now }
+{
+    check_each(
+        kinds,
+        |_, kind| no_kind(*kind),
+        |place| Refusal::WrongKind { place },
+    )
 }
 
 fn check_contextual(kinds: &[u16], contextual: &[u16]) -> Result<(), Refusal>
     requires { length kinds.now ≡ length contextual.now }
     ensures { fault result ≡ contextual_fault kinds.now contextual.now }
 {
-    for (place, other) in contextual.iter().enumerate() {
-        if no_contextual(kinds[place], *other) {
-            return Err(Refusal::WrongContextualKind { place });
-        }
-    }
-    Ok(())
+    check_each(
+        contextual,
+        |place, other| no_contextual(kinds[place], *other),
+        |place| Refusal::WrongContextualKind { place },
+    )
 }
 
 fn check_editions(editions: &[u8]) -> Result<(), Refusal>
     ensures { fault result ≡ editions_fault editions.now }
 {
-    for (place, edition) in editions.iter().enumerate() {
-        if no_edition(*edition) {
-            return Err(Refusal::WrongEdition { place });
-        }
-    }
-    Ok(())
+    check_each(
+        editions,
+        |_, edition| no_edition(*edition),
+        |place| Refusal::WrongEdition { place },
+    )
 }
 
 fn check_rows(kinds: &[u16], rows: &[Row]) -> Result<(), Refusal>
     ensures { fault result ≡ rows_fault kinds.now rows.now }
 {
-    for (place, row) in rows.iter().enumerate() {
-        if !lawful(kinds, place, row) {
-            return Err(Refusal::UnlawfulRow { place });
-        }
-    }
-    Ok(())
+    check_each(
+        rows,
+        |place, row| !lawful(kinds, place, row),
+        |place| Refusal::UnlawfulRow { place },
+    )
 }

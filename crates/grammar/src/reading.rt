@@ -1,8 +1,7 @@
-ghost use Rattle.event_log.specs.Sound.{Within, Roomy, Short, Few, Inside, Blanks};
 ghost use Rattle.grammar.specs.Calls.{Reached};
 
 use event_log::event::Record;
-use event_log::records::Log;
+use event_log::parser::Parser;
 use refusals::Refusal;
 
 mod calls;
@@ -10,15 +9,9 @@ mod calls;
 /// Tokens that are read, and the log of what the calls since `open` made of them.
 #[derive(Drop)]
 pub struct Reading<'a> {
-    log: Log<'a>,
-    ghost within: { Within log },
-    ghost roomy: { Roomy log },
-    ghost short: { Short log },
-    ghost few: { Few log },
-    ghost inside: { Inside log },
-    ghost blanks: { Blanks log },
+    parser: Parser<'a>,
     // some list of calls since it was opened has led here
-    ghost reached: { Reached log },
+    ghost reached: { Reached parser },
 }
 
 /// Columns that were not opened: why, and the log that was lent for them, as it was.

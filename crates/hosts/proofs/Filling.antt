@@ -1,6 +1,6 @@
 -- Filling rows: why it is refused, and what the rows hold as the loop goes on.
-use Rattle.std.proofs.Common.{◌≡◌, ℕ, ◌+◌, ◌<◌, ◌≤◌, Bool, true, false, cond, not, eqb, ltb, ◌≢◌, ◌⊎◌, List, [], ◌∷◌, length, get_or, set, IsErrAnd, Some, None, Ok, Err, Option, Result, sym, refl, ap, ◌∙◌, inl, inr, arith, below_more}
-use Rattle.std.proofs.lemmas.Bool.{le-ltb, lt-ltb, eq-eqb, ne_eqb, eqb-true, not-false, not_from_true, not_from_false, and_from, cond-true, cond-false}
+use Rattle.std.proofs.Common.{◌≡◌, ℕ, ◌+◌, ◌<◌, Bool, true, false, cond, not, eqb, ltb, ◌≢◌, List, [], ◌∷◌, length, get_or, set, IsErrAnd, Some, None, Ok, Err, Option, Result, sym, refl, ap, ◌∙◌, arith, below_more}
+use Rattle.std.proofs.lemmas.Bool.{eqb-true, not-false, and_from}
 use Rattle.std.proofs.lemmas.List.{get_or-set_same, get_or-set_other}
 use Rattle.std.proofs.lemmas.List.FromFn.{fill_by_all}
 use Rattle.refusals.specs.declared.Refusal.{Refusal}
@@ -12,8 +12,7 @@ use Rattle.tokens.specs.declared.rows.Hook.TheVariants.{Expr, BlockExpr, Literal
 use Rattle.tokens.specs.declared.rows.Answer.{Answer}
 use Rattle.tokens.specs.declared.rows.Row.{Row}
 use Rattle.tokens.specs.Islands.{answer_of, every_hook, lawful_answer, lawful_row}
-use Rattle.grammar.specs.Verdict.{first_of, when, verdict}
-use Rattle.grammar.proofs.Verdicts.{by_tokens}
+use Rattle.grammar.specs.Verdict.{first_of, when, verdict, row_count_fault}
 use Rattle.hosts.specs.Host.{Columns, columns}
 use Rattle.hosts.specs.Fill.{fill_verdict, row_of, Fills}
 use Rattle.hosts.specs.Fill.Fills.{filled, refused}
@@ -25,18 +24,30 @@ three false true r s v = refl
 three false false r s None = refl
 three false false r s (Some x) = refl
 
+-- what the first two of three refuse, all three refuse; and where they accept, the third decides
+first_two : (b d : Bool) (r s : Refusal) (v : Option Refusal) {e : Refusal} → Some e ≡ first_of (when b r ∷ (when d s ∷ [])) → Some e ≡ first_of (when b r ∷ (when d s ∷ (v ∷ [])))
+unfolding first_of
+first_two true d r s v h = h
+first_two false true r s v h = h
+first_two false false r s v h = absurd (let z : ◌≡◌ {A = ℕ} 0 1 = cc in omega arith)
+
+past_two : (b d : Bool) (r s : Refusal) (v : Option Refusal) → None ≡ first_of (when b r ∷ (when d s ∷ [])) → v ≡ first_of (when b r ∷ (when d s ∷ (v ∷ [])))
+unfolding first_of
+past_two true d r s v h = absurd (let z : ◌≡◌ {A = ℕ} 0 1 = cc in omega arith)
+past_two false true r s v h = absurd (let z : ◌≡◌ {A = ℕ} 0 1 = cc in omega arith)
+past_two false false r s None h = refl
+past_two false false r s (Some x) h = refl
+
 module _ (i : Input) (rows : ℕ) where
   parts : fill_verdict i rows ≡ cond (ltb 4096 (length i.kinds.now)) (Some (TooManyTokens input_layer)) (cond (not (eqb rows (length i.kinds.now))) (Some ColumnLength) (verdict i 0))
   parts = three _ _ _ _ _
 
-  pub rows_differ : {e : Refusal} → length i.kinds.now ≤ 4096 → (rows ≡ length i.kinds.now → ⊥) → e ≡ ColumnLength → Some e ≡ fill_verdict i rows
-  rows_differ few h p =
-      ap (λ (x : Refusal). Some x) p
-      ∙ sym (parts ∙ cond-false _ _ _ (le-ltb 4096 _ few) ∙ cond-true _ _ _ (not_from_false _ (ne_eqb _ _ h)))
+  -- the number of rows decides first, and then the columns
+  pub by_count : {e : Refusal} → Some e ≡ row_count_fault i rows → Some e ≡ fill_verdict i rows
+  by_count h = first_two _ _ _ _ _ h
 
-  pub rows_agree : ((length i.kinds.now ≤ 4096) × (rows ≡ length i.kinds.now)) ⊎ (4096 < length i.kinds.now) → verdict i 0 ≡ fill_verdict i rows
-  rows_agree (inl h) = sym (parts ∙ cond-false _ _ _ (le-ltb 4096 _ h.0) ∙ cond-false _ _ _ (not_from_true _ (eq-eqb _ _ h.1)))
-  rows_agree (inr h) = sym (by_tokens i 0 h refl) ∙ sym (parts ∙ cond-true _ _ _ (lt-ltb 4096 _ h))
+  pub past_count : None ≡ row_count_fault i rows → verdict i 0 ≡ fill_verdict i rows
+  past_count h = past_two _ _ _ _ _ h
 
   -- accepted, there is one row for each token
   pub rows_count : fill_verdict i rows ≡ None → rows ≡ length i.kinds.now

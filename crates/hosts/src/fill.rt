@@ -7,9 +7,9 @@ ghost use Rattle.hosts.specs.Host.{columns};
 ghost use Rattle.hosts.specs.Fill.{Fills, fill_verdict, row_of};
 
 use crate::host::Host;
-use grammar::check::check;
+use grammar::check::{check, check_row_count};
 use refusals::Refusal;
-use tokens::input::{Input, MAX_TOKENS};
+use tokens::input::Input;
 use tokens::rows::{Hook, Row};
 
 /// Asks the host every hook at each token place, and keeps what it answers. Refused as `open` would refuse the columns, or 2 where there is not one row for
@@ -28,10 +28,7 @@ pub fn fill<H: Host>(input: Input, host: &H, rows: &mut [Row]) -> Result<(), Ref
 fn check_rows(input: Input, rows: usize) -> Result<(), Refusal>
     ensures { fault result ≡ fill_verdict input.entry rows }
 {
-    let tokens = input.kinds.len();
-    if tokens <= MAX_TOKENS && rows != tokens {
-        return Err(Refusal::ColumnLength);
-    }
+    check_row_count(input, rows)?;
     check(input, 0)
 }
 

@@ -6,20 +6,19 @@ use Rattle.std.proofs.lemmas.Bool.{cases_lt}
 use Rattle.event_log.specs.declared.event.Record.{Record}
 use Rattle.tokens.specs.declared.input.Input.{Input}
 use Rattle.event_log.specs.declared.item.Item.{Item}
-use Rattle.event_log.specs.declared.records.Log.{Log}
+use Rattle.event_log.specs.declared.parser.Parser.{Parser}
 use Rattle.refusals.specs.declared.Refusal.{Refusal}
 use Rattle.tokens.specs.Kinds.{EOF}
 use Rattle.event_log.specs.Program.{Env, kind_at}
 use Rattle.event_log.specs.Model.{of, env, env_of}
 use Rattle.event_log.specs.Tell.{tell}
-use Rattle.event_log.proofs.Slots.{count_is}
+use Rattle.event_log.proofs.Slots.{counted}
 use Rattle.grammar.specs.declared.reading.Reading.{Reading}
 use Rattle.grammar.specs.declared.reading.Unopened.{Unopened}
 use Rattle.grammar.specs.Verdict.{verdict}
 use Rattle.grammar.specs.Open.{Opens}
 use Rattle.grammar.specs.Open.Opens.{opened, refused}
 use Rattle.grammar.proofs.Verdicts.{no_end}
-use Rattle.grammar.proofs.Readings.{sound_of}
 use Rattle.file.specs.TokenFile.{written, words_for, kind_of, contextual_of, edition_of, joint_word}
 use Rattle.sinks.specs.Sink.{Heard}
 use Rattle.sinks.specs.Walk.{Walks, Lawful}
@@ -59,17 +58,17 @@ pub not_opened : {size : Item → ℕ} {bytes : List ℕ} {s : Heard} {n : ℕ} 
 not_opened i le o h k (refused v m z) = unopened i le o h (ap (verdict i) (sym k) ∙ v) refl
 
 -- the exit of a `?`, where the log is full
-pub not_taken : {size : Item → ℕ} {bytes : List ℕ} {s : Heard} {n : ℕ} {x : Unit {0}} {l : MutBor (List Record)} {r q : Reading} {m : Log} {e : Refusal} (i : Input) → length bytes ≤ max_bytes
-    → read_from bytes ≡ Ok n → HoldsFile bytes n i → length l.now ≡ records → Opens i l r q (Ok x) → TakesAll q.log m (Err e)
+pub not_taken : {size : Item → ℕ} {bytes : List ℕ} {s : Heard} {n : ℕ} {x : Unit {0}} {l : MutBor (List Record)} {r q : Reading} {m : Parser} {e : Refusal} (i : Input) → length bytes ≤ max_bytes
+    → read_from bytes ≡ Ok n → HoldsFile bytes n i → length l.now ≡ records → Opens i l r q (Ok x) → TakesAll q.parser m (Err e)
     → (o : Result (Unit {0}) Refusal) → IsErrAnd o (λ f. f ≡ e) → Lists size bytes s s o
 not_taken i le c h k (opened v new) (stuck p q) (Ok x) z = absurd z
 not_taken i le c h k (opened v new) (stuck p q) (Err f) z = full i p le c h (ap (verdict i) (sym k) ∙ v) (z ∙ q) refl
 
-all_of : {l m : Log} {x : Unit {0}} → TakesAll l m (Ok x) → AllTaken l m
+all_of : {l m : Parser} {x : Unit {0}} → TakesAll l m (Ok x) → AllTaken l m
 all_of (taken h) = h
 
 -- the end of the tokens is behind the last one
-last_place : (i : Input) (k : ℕ) (p : Log) → verdict i k ≡ None → env p ≡ env_of i records → kind_at (env p) p.place ≡ EOF → p.place ≤ length p.input.kinds.now → p.place ≡ length i.kinds.now
+last_place : (i : Input) (k : ℕ) (p : Parser) → verdict i k ≡ None → env p ≡ env_of i records → kind_at (env p) p.place ≡ EOF → p.place ≤ length p.input.kinds.now → p.place ≡ length i.kinds.now
 last_place i k p v e z le = go (cases_lt p.place (length i.kinds.now))
   where
     tokens : length p.input.kinds.now ≡ length i.kinds.now
@@ -82,21 +81,21 @@ last_place i k p v e z le = go (cases_lt p.place (length i.kinds.now))
 -- A reading that was opened, gone through and told.
 pub all_listed : {size : Item → ℕ} {bytes : List ℕ} {s t : Heard} {n : ℕ} {x y : Unit {0}} {marks after : List ℕ} {l : MutBor (List Record)} {r q : Reading} (i : Input) (p : Reading)
     {o : Result (Unit {0}) Refusal} → length bytes ≤ max_bytes → read_from bytes ≡ Ok n → HoldsFile bytes n i → length l.now ≡ records → length marks ≡ records
-    → Opens i l r q (Ok x) → TakesAll q.log p.log (Ok y) → Walks size (of p.log).recs marks after s t o → Lists size bytes s t o
+    → Opens i l r q (Ok x) → TakesAll q.parser p.parser (Ok y) → Walks size (of p.parser).recs marks after s t o → Lists size bytes s t o
 all_listed {size} {bytes} {s} {t} {n} {marks = marks} {after} {q = q} i p le c h k m (opened v new) d w = go w
   where
-    same : env p.log ≡ env_of i records
+    same : env p.parser ≡ env_of i records
     same = (all_of d).same ∙ new.same ∙ ap (env_of i) k
 
     tokens : length i.kinds.now ≡ n
     tokens = ap length h.kinds ∙ length-map-range_with_len (kind_of bytes) 0 n
 
-    place : p.log.place ≡ n
-    place = last_place i _ p.log v same (all_of d).ended p.inside ∙ tokens
+    place : p.parser.place ≡ n
+    place = last_place i _ p.parser v same (all_of d).ended p.parser.inside ∙ tokens
 
-    few : length (of p.log).recs ≤ records
-    few = omega (arith, count_is p.log (sound_of p), p.within, ap (λ (e : Env). e.room) same)
+    few : length (of p.parser).recs ≤ records
+    few = omega (arith, counted p.parser, p.parser.within, ap (λ (e : Env). e.room) same)
 
-    go : {o : Result (Unit {0}) Refusal} → Walks size (of p.log).recs marks after s t o → Lists size bytes s t o
-    go (walked g z u) = told i (of p.log).recs le c h (ap (verdict i) (sym k) ∙ v) (subst₂ (λ (e : Env) (j : ℕ). Lawful e j (tell (of p.log).recs)) same place (lawful p)) z
+    go : {o : Result (Unit {0}) Refusal} → Walks size (of p.parser).recs marks after s t o → Lists size bytes s t o
+    go (walked g z u) = told i (of p.parser).recs le c h (ap (verdict i) (sym k) ∙ v) (subst₂ (λ (e : Env) (j : ℕ). Lawful e j (tell (of p.parser).recs)) same place (lawful p)) z
     go (no_marks g e u z) = absurd (omega (arith, few))

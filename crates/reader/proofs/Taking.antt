@@ -1,7 +1,7 @@
 -- Tokens that are taken one by one, up to the last.
 use Rattle.std.proofs.Common.{◌≡◌, ℕ, ◌<◌, Bool, true, false, cond, eqb, ltb, length, IsErrAnd, Ok, Err, Result, sym, refl, ap, ◌∙◌, arith}
 use Rattle.std.proofs.lemmas.Bool.{eqb-true, eqb-false}
-use Rattle.event_log.specs.declared.records.Log.{Log}
+use Rattle.event_log.specs.declared.parser.Parser.{Parser}
 use Rattle.event_log.specs.declared.records.Taken.{Taken}
 use Rattle.refusals.specs.declared.Refusal.{Refusal}
 use Rattle.tokens.specs.Kinds.{EOF}
@@ -49,7 +49,7 @@ stops e i o (at_end h) p = absurd (let q : ◌≡◌ {A = ℕ} 0 1 = cc in omega
 stops e i o (one k) p = absurd (let q : ◌≡◌ {A = ℕ} 0 1 = cc in omega arith)
 stops e i o full p = cc
 
-pub ended : {l m : Log} {t : Taken} → Performs bump_any l m (Ok t) → t.tokens ≡ 0 → AllTaken l m
+pub ended : {l m : Parser} {t : Taken} → Performs bump_any l m (Ok t) → t.tokens ≡ 0 → AllTaken l m
 ended {l} {m} (performed f a e h tokens clean) z = record {
   same = h.same;
   ended = (λ j. kind_at (h.same j) (place j)) ∙ ends (env l) l.place _ (bumped (env l) (length (of l).recs) l.place) e (sym tokens ∙ z);
@@ -58,17 +58,17 @@ ended {l} {m} (performed f a e h tokens clean) z = record {
     place : m.place ≡ l.place
     place = h.place ∙ omega (arith, tokens, z)
 
-pub moved : {l m : Log} {t : Taken} → Performs bump_any l m (Ok t) → (t.tokens ≡ 0 → ⊥) → l.place < m.place
+pub moved : {l m : Parser} {t : Taken} → Performs bump_any l m (Ok t) → (t.tokens ≡ 0 → ⊥) → l.place < m.place
 moved (performed f a e h tokens clean) n = omega (arith, h.place, tokens, n)
 
-pub same_tokens : {l m : Log} {t : Taken} → Performs bump_any l m (Ok t) → env m ≡ env l
+pub same_tokens : {l m : Parser} {t : Taken} → Performs bump_any l m (Ok t) → env m ≡ env l
 same_tokens (performed f a e h tokens clean) = h.same
 
 -- after others
-pub after : {k l m : Log} → env l ≡ env k → AllTaken l m → AllTaken k m
+pub after : {k l m : Parser} → env l ≡ env k → AllTaken l m → AllTaken k m
 after e h = record { same = h.same ∙ e; ended = h.ended }
 
 -- the exit of a `?`
-pub stuck_at : {k l m : Log} {e : Refusal} → Performs bump_any l m (Err e) → (r : Result (Unit {0}) Refusal) → IsErrAnd r (λ f. f ≡ e) → TakesAll k m r
+pub stuck_at : {k l m : Parser} {e : Refusal} → Performs bump_any l m (Err e) → (r : Result (Unit {0}) Refusal) → IsErrAnd r (λ f. f ≡ e) → TakesAll k m r
 stuck_at {l = l} (refused h n) (Ok x) p = absurd p
 stuck_at {l = l} (refused h n) (Err f) p = stuck l.place (p ∙ stops (env l) l.place _ (bumped (env l) (length (of l).recs) l.place) h)

@@ -4,7 +4,7 @@ use Rattle.std.specs.List.{range_with_len}
 use Rattle.event_log.specs.declared.event.Record.{Record}
 use Rattle.tokens.specs.declared.input.Input.{Input}
 use Rattle.event_log.specs.declared.item.Item.{Item}
-use Rattle.event_log.specs.declared.records.Log.{Log}
+use Rattle.event_log.specs.declared.parser.Parser.{Parser}
 use Rattle.refusals.specs.declared.Refusal.{Refusal}
 use Rattle.refusals.specs.declared.Layer.TheVariants.{File}
 use Rattle.tokens.specs.Kinds.{EOF}
@@ -30,12 +30,12 @@ abbrev pub read_from : List ℕ → Result ℕ Refusal
 read_from bytes = into_columns 1024 1024 16 1024 (tokens_of bytes)
 
 -- the log is at the end of the same tokens
-pub record AllTaken (l m : Log) : Type 0 where
+pub record AllTaken (l m : Parser) : Type 0 where
   pub same : env m ≡ env l
   pub ended : kind_at (env m) m.place ≡ EOF
 
 -- every token is taken, or the log is full
-pub data TakesAll (l m : Log) : Result (Unit {0}) Refusal → Type 0 where
+pub data TakesAll (l m : Parser) : Result (Unit {0}) Refusal → Type 0 where
   taken : {x : Unit {0}} → AllTaken l m → TakesAll l m (Ok x)
   stuck : {e : Refusal} (place : ℕ) → e ≡ LogFull place → TakesAll l m (Err e)
 

@@ -31,7 +31,7 @@ fn too_long(bytes: &[u8]) -> bool
 
 /// Takes every token.
 fn take_all(reading: &mut Reading) -> Result<(), Refusal>
-    ensures { TakesAll reading.old.log reading.new.log result }
+    ensures { TakesAll reading.old.parser reading.new.parser result }
 {
     loop {
         let taken = reading.skip()?;

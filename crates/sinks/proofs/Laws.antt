@@ -8,7 +8,7 @@ use native.Mathlib.Nat.{ℕ_set}
 use Rattle.std.proofs.lemmas.Bool.{both_ways}
 use Rattle.event_log.specs.declared.item.Item.{Item}
 use Rattle.event_log.specs.declared.item.Item.TheVariants.{Enter, Leave, Token, Error}
-use Rattle.event_log.specs.declared.records.Log.{Log}
+use Rattle.event_log.specs.declared.parser.Parser.{Parser}
 use Rattle.refusals.specs.declared.Refusal.{Refusal}
 use Rattle.event_log.specs.Program.{Env}
 use Rattle.event_log.specs.Model.{of, env}
@@ -43,7 +43,7 @@ spelled_prop e (Error n k ∷ is) i = spelled_prop e is i
 facts_prop : (e : Env) (place : ℕ) (items : List Item) → IsProp (Facts e place items)
 facts_prop e place items = both_prop (spelled_prop e items 0) (both_prop (ℕ_set _ _) (Bool-set _ _))
 
-led_facts : (l : Log) (cs : List Call) → Leads l cs → Facts (env l) l.place (tell (of l).recs)
+led_facts : (l : Parser) (cs : List Call) → Leads l cs → Facts (env l) l.place (tell (of l).recs)
 led_facts l cs h =
     let s : Stands (env l) (seen l) = subst (Stands (env l)) h (after_stands (env l) (map program cs)) in
     let t = stands_tokens (env l) (seen l) s in
@@ -67,16 +67,16 @@ facts_lawful e place items inside h =
       nodes = matched_balanced items m.0 m.1;
     }
 
-pub lawful : (r : Reading) → Lawful (env r.log) r.log.place (tell (of r.log).recs)
+pub lawful : (r : Reading) → Lawful (env r.parser) r.parser.place (tell (of r.parser).recs)
 lawful r =
-    let e = env r.log in
-    let items = tell (of r.log).recs in
-    facts_lawful e r.log.place items r.inside (∥∥₁_elim r.reached (facts_prop e r.log.place items) (λ q. led_facts r.log q.0 q.1))
+    let e = env r.parser in
+    let items = tell (of r.parser).recs in
+    facts_lawful e r.parser.place items r.parser.inside (∥∥₁_elim r.reached (facts_prop e r.parser.place items) (λ q. led_facts r.parser q.0 q.1))
 
-tell_law : {size : Item → ℕ} {s t : Heard} {x : Result (Unit {0}) Refusal} (r : Reading) → TellsAll size (of r.log).recs s t x → WalkLaw r.log s t x
-tell_law r (all (told f i n)) = record { told = tell (of r.log).recs; more = i; such = lawful r }
+tell_law : {size : Item → ℕ} {s t : Heard} {x : Result (Unit {0}) Refusal} (r : Reading) → TellsAll size (of r.parser).recs s t x → WalkLaw r.parser s t x
+tell_law r (all (told f i n)) = record { told = tell (of r.parser).recs; more = i; such = lawful r }
 tell_law r (part e h p) = tt
 
-pub walk_law : {size : Item → ℕ} {l m : List ℕ} {s t : Heard} {x : Result (Unit {0}) Refusal} (r : Reading) → Walks size (of r.log).recs l m s t x → WalkLaw r.log s t x
+pub walk_law : {size : Item → ℕ} {l m : List ℕ} {s t : Heard} {x : Result (Unit {0}) Refusal} (r : Reading) → Walks size (of r.parser).recs l m s t x → WalkLaw r.parser s t x
 walk_law r (walked le h a) = tell_law r h
 walk_law r (no_marks lt e a b) = tt

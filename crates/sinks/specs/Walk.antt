@@ -3,7 +3,7 @@ use Rattle.std.specs.Prelude.{◌≡◌, ℕ, suc, ◌+◌, ◌<◌, ◌≤◌, 
 use Rattle.event_log.specs.declared.event.Record.{Record}
 use Rattle.event_log.specs.declared.event.Record.TheVariants.{Start, Finish, Token, Error}
 use Rattle.event_log.specs.declared.item.Item.{Item}
-use Rattle.event_log.specs.declared.records.Log.{Log}
+use Rattle.event_log.specs.declared.parser.Parser.{Parser}
 use Rattle.refusals.specs.declared.Refusal.{Refusal}
 use Rattle.refusals.specs.declared.Refusal.TheVariants.{MarksShort, SinkFull}
 use Rattle.event_log.specs.Program.{Env}
@@ -106,6 +106,6 @@ pub record ToldMore (P : List Item → Type 0) (s t : Heard) : Type 0 where
   pub more : t.items ≡ s.items ++ told
   pub such : P told
 
-abbrev pub WalkLaw : Log → Heard → Heard → Result (Unit {0}) Refusal → Type 0
+abbrev pub WalkLaw : Parser → Heard → Heard → Result (Unit {0}) Refusal → Type 0
 WalkLaw l s t (Ok x) = ToldMore (Lawful (env l) l.place) s t
 WalkLaw l s t (Err e) = Unit {0}

@@ -19,8 +19,8 @@ mod tests;
 /// Tells the sink all that was recorded. It works with a mark for each record: refused 9 where there are fewer, and nothing is told then.
 /// Refused 10 where the sink is full, at the record reached; what was told before stays told. The marks are zero in the end.
 pub fn walk<S: Sink>(reading: &Reading, marks: &mut [u8], sink: &mut S) -> Result<(), Refusal>
-    ensures told { Walks (amounts S.size) (of reading.now.log).recs marks.old marks.new (S.heard sink.old) (S.heard sink.new) result }
-    ensures law { WalkLaw reading.now.log (S.heard sink.old) (S.heard sink.new) result }
+    ensures told { Walks (amounts S.size) (of reading.now.parser).recs marks.old marks.new (S.heard sink.old) (S.heard sink.new) result }
+    ensures law { WalkLaw reading.now.parser (S.heard sink.old) (S.heard sink.new) result }
 {
     let records = reading.records();
     process(records, marks, sink)

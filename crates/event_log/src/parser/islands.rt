@@ -1,8 +1,7 @@
 //! The call that records an island: what the row at the place answers.
 
 ghost use Rattle.std.specs.Prelude.{◌≡◌};
-ghost use Rattle.event_log.specs.Model.{env, Meets};
-ghost use Rattle.event_log.specs.Sound.{Rowed};
+ghost use Rattle.event_log.specs.Model.{env, Meets, Rowed};
 ghost use Rattle.event_log.specs.Island.{answer_at, answer_at_end, bumps as bumps_of, island_error, island_inside, island as island_of};
 
 use super::Parser;
@@ -24,18 +23,18 @@ fn answer_at_end(hook: Hook) -> Answer
 impl<'a> Parser<'a> {
     /// What this hook answers at the place.
     fn answer(&self, hook: Hook) -> Answer
-        requires { Rowed self.now.log }
-        ensures { result ≡ answer_at (env self.now.log) self.now.log.place hook }
+        requires { Rowed self.now }
+        ensures { result ≡ answer_at (env self.now) self.now.place hook }
     {
         if self.current() == EOF {
             return answer_at_end(hook);
         }
-        self.log.rows[self.log.place].answer(hook)
+        self.rows[self.place].answer(hook)
     }
 
     /// Records what this hook answers: a node, if there is a kind, around an error, if it is at fault, and its tokens.
     pub fn island(&mut self, hook: Hook) -> Result<(), Refusal>
-        requires { Rowed self.old.log }
+        requires { Rowed self.old }
         ensures { Meets (island_of hook) self.old self.new result }
     {
         let answer = self.answer(hook);

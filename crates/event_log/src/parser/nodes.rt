@@ -16,9 +16,9 @@ use tokens::syntax_kind::ERROR;
 impl<'a> Parser<'a> {
     /// Starts a node.
     pub fn start(&mut self) -> Result<Marker, Refusal>
-        ensures { Starts (of self.old.log) (of self.new.log) result }
+        ensures { Starts (of self.old) (of self.new) result }
     {
-        let at = self.log.count;
+        let at = self.count;
         self.push(Record::BLANK)?;
         Ok(Marker { at })
     }
@@ -43,32 +43,32 @@ impl<'a> Parser<'a> {
 impl Marker {
     /// Makes it a node of this kind, around all that was recorded since.
     pub fn complete(self, p: &mut Parser, kind: u16) -> Result<CompletedMarker, Refusal>
-        requires opened { Open self (of p.old.log) }
+        requires opened { Open self (of p.old) }
         requires named { 0 < kind }
         ensures { Completes self kind p.old p.new result }
     {
         let Marker { at } = self;
         p.push(Record::Finish)?;
-        p.log.records[at] = Record::Start {
+        p.records[at] = Record::Start {
             kind,
             forward: None,
         };
         Ok(CompletedMarker {
             start: at,
-            end: p.log.count,
+            end: p.count,
             kind,
         })
     }
 
     /// Leaves what was recorded since to the node around it. The start is removed where it is the last record, and else stays blank.
     pub fn abandon(self, p: &mut Parser)
-        requires { Open self (of p.old.log) }
+        requires { Open self (of p.old) }
         ensures { Abandons self p.old p.new }
     {
         let Marker { at } = self;
-        if at + 1 == p.log.count {
-            p.log.records[at] = Record::BLANK;
-            p.log.count = at;
+        if at + 1 == p.count {
+            p.records[at] = Record::BLANK;
+            p.count = at;
         }
     }
 
@@ -78,21 +78,16 @@ impl Marker {
         p: &mut Parser,
         r: Result<Option<u16>, Refusal>,
     ) -> Result<Option<CompletedMarker>, Refusal>
-        requires opened { Open self (of p.old.log) }
+        requires opened { Open self (of p.old) }
         requires named { Named r }
         ensures { Settles self p.old p.new r result }
     {
         match r {
-            Ok(answer) => match answer {
-                Some(kind) => {
-                    let c = self.complete(p, kind)?;
-                    Ok(Some(c))
-                }
-                None => {
-                    self.abandon(p);
-                    Ok(None)
-                }
-            },
+            Ok(Some(kind)) => Ok(Some(self.complete(p, kind)?)),
+            Ok(None) => {
+                self.abandon(p);
+                Ok(None)
+            }
             Err(e) => {
                 self.abandon(p);
                 Err(e)
@@ -107,7 +102,7 @@ impl Marker {
         r: Result<A, Refusal>,
         kind: u16,
     ) -> Result<CompletedMarker, Refusal>
-        requires opened { Open self (of p.old.log) }
+        requires opened { Open self (of p.old) }
         requires named { 0 < kind }
         ensures { Finishes self kind p.old p.new r result }
     {
@@ -127,7 +122,7 @@ impl Marker {
         r: Result<A, Refusal>,
         kind: u16,
     ) -> Result<(), Refusal>
-        requires opened { Open self (of p.old.log) }
+        requires opened { Open self (of p.old) }
         requires named { 0 < kind }
         ensures { Closes self kind p.old p.new r result }
     {
@@ -145,7 +140,7 @@ impl CompletedMarker {
 
     /// Starts a node that precedes this one, around it and all that is recorded from here on.
     pub fn precede(self, p: &mut Parser) -> Result<Marker, Refusal>
-        requires { Last self (of p.old.log) }
+        requires { Last self (of p.old) }
         ensures { Leads self p.old p.new result }
     {
         let CompletedMarker {
@@ -154,7 +149,7 @@ impl CompletedMarker {
             kind,
         } = self;
         let m = p.start()?;
-        p.log.records[start] = Record::Start {
+        p.records[start] = Record::Start {
             kind,
             forward: Some((m.at - start) as u16),
         };
@@ -163,7 +158,7 @@ impl CompletedMarker {
 
     /// Puts this node alone into one of this kind.
     pub fn wrap(self, p: &mut Parser, kind: u16) -> Result<CompletedMarker, Refusal>
-        requires last { Last self (of p.old.log) }
+        requires last { Last self (of p.old) }
         requires named { 0 < kind }
         ensures { Extends by_kind (around (give kind)) self p.old p.new result }
     {

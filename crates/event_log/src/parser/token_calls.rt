@@ -15,41 +15,41 @@ use tokens::syntax_kind::{EOF, TOMBSTONE};
 impl<'a> Parser<'a> {
     /// The kind of the next raw token: EOF at the end.
     pub fn current(&self) -> u16
-        ensures { result ≡ kind_at (env self.now.log) self.now.log.place }
+        ensures { result ≡ kind_at (env self.now) self.now.place }
     {
-        self.log.input.kind(self.log.place)
+        self.input.kind(self.place)
     }
 
     /// The kind of the raw token that is n ahead: EOF past the end.
     pub fn nth(&self, n: usize) -> u16
         requires { n ≤ 3 }
-        ensures { result ≡ kind_at (env self.now.log) (self.now.log.place + n) }
+        ensures { result ≡ kind_at (env self.now) (self.now.place + n) }
     {
-        self.log.input.kind(self.log.place + n)
+        self.input.kind(self.place + n)
     }
 
     /// A raw token of this kind follows the one at this place, with no space between them.
     fn follows(&self, place: usize, kind: u16) -> bool
         requires { place ≤ 4100 }
-        ensures { result ≡ follows_at (env self.now.log) place kind }
+        ensures { result ≡ follows_at (env self.now) place kind }
     {
-        self.log.input.is_joint(place) && self.log.input.kind(place + 1) == kind
+        self.input.is_joint(place) && self.input.kind(place + 1) == kind
     }
 
     /// A token of this kind begins n raw tokens ahead; asked for `:` at `::`, the answer is yes.
     #[tactic(auto, unfolding(crate::specs::Program::raw_ahead))]
     pub fn nth_at(&self, n: usize, kind: u16) -> bool
         requires { n ≤ 3 }
-        ensures { ahead (env self.now.log) (self.now.log.place + n) kind ≡ result }
+        ensures { ahead (env self.now) (self.now.place + n) kind ≡ result }
     {
-        let place = self.log.place + n;
+        let place = self.place + n;
         match parts(kind) {
-            RawTokens::One(first) => self.log.input.kind(place) == first,
+            RawTokens::One(first) => self.input.kind(place) == first,
             RawTokens::Two(first, second) => {
-                self.log.input.kind(place) == first && self.follows(place, second)
+                self.input.kind(place) == first && self.follows(place, second)
             }
             RawTokens::Three(first, second, third) => {
-                self.log.input.kind(place) == first
+                self.input.kind(place) == first
                     && self.follows(place, second)
                     && self.follows(place + 1, third)
             }
@@ -58,40 +58,54 @@ impl<'a> Parser<'a> {
 
     /// A token of this kind is next.
     pub fn at(&self, kind: u16) -> bool
-        ensures { ahead (env self.now.log) self.now.log.place kind ≡ result }
+        ensures { ahead (env self.now) self.now.place kind ≡ result }
     {
         self.nth_at(0, kind)
     }
 
+    /// A token of this kind is next, before the end.
+    fn is_present(&self, kind: u16) -> bool
+        ensures { present (env self.now) self.now.place kind ≡ result }
+    {
+        self.current() != EOF && self.at(kind)
+    }
+
     /// The next raw token may be read as this keyword.
     pub fn at_contextual_kw(&self, kw: u16) -> bool
-        ensures { (contextual_at (env self.now.log) self.now.log.place == kw) ≡ result }
+        ensures { (contextual_at (env self.now) self.now.place == kw) ≡ result }
     {
-        self.log.input.contextual_kind(self.log.place) == kw
+        self.input.contextual_kind(self.place) == kw
+    }
+
+    /// The next raw token, before the end, may be read as this keyword, which is not the end.
+    fn is_readable(&self, kw: u16) -> bool
+        ensures { readable (env self.now) self.now.place kw ≡ result }
+    {
+        self.current() != EOF && kw != EOF && self.at_contextual_kw(kw)
     }
 
     /// The raw token that is n ahead may be read as this keyword.
     pub fn nth_at_contextual_kw(&self, n: usize, kw: u16) -> bool
         requires { n ≤ 3 }
-        ensures { (contextual_at (env self.now.log) (self.now.log.place + n) == kw) ≡ result }
+        ensures { (contextual_at (env self.now) (self.now.place + n) == kw) ≡ result }
     {
-        self.log.input.contextual_kind(self.log.place + n) == kw
+        self.input.contextual_kind(self.place + n) == kw
     }
 
     /// The edition that the next raw token is read in: 0 at the end.
     pub fn current_edition(&self) -> u8
-        ensures { result ≡ edition_at (env self.now.log) self.now.log.place }
+        ensures { result ≡ edition_at (env self.now) self.now.place }
     {
-        self.log.input.edition(self.log.place)
+        self.input.edition(self.place)
     }
 
     /// Takes a token of this kind, which the next raw tokens are known to spell.
     fn do_bump(&mut self, kind: u16, width: u8) -> Result<(), Refusal>
-        requires { spells (env self.old.log) self.old.log.place kind width ≡ true }
+        requires { spells (env self.old) self.old.place kind width ≡ true }
         ensures { Meets (take kind width) self.old self.new result }
     {
         self.push(Record::Token { kind, width })?;
-        self.log.place += width as usize;
+        self.place += width as usize;
         Ok(())
     }
 
@@ -108,7 +122,7 @@ impl<'a> Parser<'a> {
 
     /// Takes a token of this kind, which is next.
     pub fn bump(&mut self, kind: u16) -> Result<(), Refusal>
-        requires { present (env self.old.log) self.old.log.place kind ≡ true }
+        requires { present (env self.old) self.old.place kind ≡ true }
         ensures { Meets (bumps kind) self.old self.new result }
     {
         self.do_bump(kind, width(kind))
@@ -118,10 +132,7 @@ impl<'a> Parser<'a> {
     pub fn eat(&mut self, kind: u16) -> Result<bool, Refusal>
         ensures { Meets (eats kind) self.old self.new result }
     {
-        if self.current() == EOF {
-            return Ok(false);
-        }
-        if !self.at(kind) {
+        if !self.is_present(kind) {
             return Ok(false);
         }
         self.bump(kind)?;
@@ -130,7 +141,7 @@ impl<'a> Parser<'a> {
 
     /// Takes the next raw token as this keyword, which it can be read as.
     pub fn bump_remap(&mut self, kind: u16) -> Result<(), Refusal>
-        requires { readable (env self.old.log) self.old.log.place kind ≡ true }
+        requires { readable (env self.old) self.old.place kind ≡ true }
         ensures { Meets (bump_remap kind) self.old self.new result }
     {
         self.do_bump(kind, 1)
@@ -140,13 +151,7 @@ impl<'a> Parser<'a> {
     pub fn eat_contextual_kw(&mut self, kind: u16) -> Result<bool, Refusal>
         ensures { Meets (eat_contextual kind) self.old self.new result }
     {
-        if self.current() == EOF {
-            return Ok(false);
-        }
-        if kind == EOF {
-            return Ok(false);
-        }
-        if !self.at_contextual_kw(kind) {
+        if !self.is_readable(kind) {
             return Ok(false);
         }
         self.bump_remap(kind)?;

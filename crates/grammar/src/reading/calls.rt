@@ -10,13 +10,13 @@ use super::{Reading, Unopened};
 use crate::check::{check, check_with_rows};
 use event_log::event::Record;
 use event_log::parser::Parser;
-use event_log::records::{Log, Taken};
+use event_log::records::Taken;
 use refusals::Refusal;
 use tokens::input::Input;
 use tokens::rows::Row;
 
-/// A log of no records, for no tokens.
-fn empty<'a>() -> Log<'a>
+/// A parser of no tokens, with no records.
+fn empty<'a>() -> Parser<'a>
     ensures { Empty result }
 {
     let input = Input {
@@ -25,7 +25,7 @@ fn empty<'a>() -> Log<'a>
         joint: &[],
         editions: &[],
     };
-    Log::new(input, &mut [])
+    Parser::new(input, &mut [])
 }
 
 /// Why these columns cannot be read into these records, if so.
@@ -52,9 +52,9 @@ fn skip_token(parser: &mut Parser) -> Result<(), Refusal>
 impl<'a> Reading<'a> {
     /// A reading of no tokens, with an empty log.
     pub fn new() -> Reading<'a>
-        ensures { Empty result.log }
+        ensures { Empty result.parser }
     {
-        Reading { log: empty() }
+        Reading { parser: empty() }
     }
 
     /// Reads these tokens from the first one on, and records into this log.
@@ -64,7 +64,7 @@ impl<'a> Reading<'a> {
         if let Err(refusal) = refusal_of(input, records) {
             return Err(Unopened { refusal, records });
         }
-        self.log = Log::new(input, records);
+        self.parser = Parser::new(input, records);
         Ok(())
     }
 
@@ -80,39 +80,30 @@ impl<'a> Reading<'a> {
         if let Err(refusal) = refusal_with_rows(input, rows, records) {
             return Err(Unopened { refusal, records });
         }
-        self.log = Log::with_rows(input, rows, records);
+        self.parser = Parser::with_rows(input, rows, records);
         Ok(())
     }
 
     /// Takes the next raw token, if there is one.
     pub fn skip(&mut self) -> Result<Taken, Refusal>
-        ensures { Performs bump_any self.old.log self.new.log result }
+        ensures { Performs bump_any self.old.parser self.new.parser result }
     {
-        let mut parser = Parser::resume(self.take_log());
-        let began = parser.begin();
-        let r = skip_token(&mut parser);
-        let r = parser.conclude(began, r);
-        self.log = parser.pause();
-        r
+        let began = self.parser.begin();
+        let r = skip_token(&mut self.parser);
+        self.parser.conclude(began, r)
     }
 
     /// How many raw tokens were taken since it was opened.
     pub fn place(&self) -> usize
-        ensures { result ≡ self.now.log.place }
+        ensures { result ≡ self.now.parser.place }
     {
-        self.log.place()
+        self.parser.place()
     }
 
     /// What was recorded since it was opened.
     pub fn records(&self) -> &[Record]
-        ensures { result.now ≡ (of self.now.log).recs }
+        ensures { result.now ≡ (of self.now.parser).recs }
     {
-        self.log.recorded()
-    }
-
-    fn take_log(&mut self) -> Log<'a>
-        ensures { result ≡ self.old.log }
-    {
-        std::mem::replace(&mut self.log, empty())
+        self.parser.recorded()
     }
 }

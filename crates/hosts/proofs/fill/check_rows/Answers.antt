@@ -1,12 +1,10 @@
-use Rattle.std.proofs.Common.{◌∙◌, inl, inr, arith}
-use Rattle.hosts.proofs.Filling.{rows_differ, rows_agree}
+use Rattle.std.proofs.Common.{◌∙◌}
+use Rattle.grammar.proofs.Verdicts.{broke}
+use Rattle.hosts.proofs.Filling.{by_count, past_count}
 use Rattle.hosts.proofs.fill.check_rows.Goals as goal
 
-pub returns-then-rows-tokens : goal.returns-then-rows-tokens
-returns-then-rows-tokens c =
-    rows_differ c.args.input c.args.rows (omega arith) (λ e. omega (arith, c.if-rows-tokens.true)) c.column_length.ensures
+pub returns-in_err-check_row_count : goal.returns-in_err-check_row_count
+returns-in_err-check_row_count c = broke _ c.from_residual.ensures.1 ∙ by_count c.args.input c.args.rows c.in_err-check_row_count.ensures
 
 pub returns : goal.returns
-returns c =
-    c.check.ensures
-    ∙ rows_agree c.args.input c.args.rows (elim c.else-tokens-le-MAX_TOKENS.either [ inl h ↦ inl (omega (arith, h.0), omega (arith, h.1)) | inr h ↦ inr (omega (arith, h)) ])
+returns c = c.check.ensures ∙ past_count c.args.input c.args.rows c.in_ok-check_row_count.ensures

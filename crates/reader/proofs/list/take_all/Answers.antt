@@ -16,7 +16,7 @@ returns-then-taken-eq0 c = taken (after c.loop-taken.invariant (ended c.in_ok-ta
 pub loop-taken-smaller : goal.loop-taken-smaller
 loop-taken-smaller c =
     let p = c.in_ok-taken.ensures in
-    omega (arith, moved p c.if-taken-eq0.false, ap (λ (e : Env). length e.kinds) (same_tokens p), c.skip.new.self.inside)
+    omega (arith, moved p c.if-taken-eq0.false, ap (λ (e : Env). length e.kinds) (same_tokens p), c.skip.new.self.parser.inside)
 
 pub loop-taken-preserved : goal.loop-taken-preserved
 loop-taken-preserved c = same_tokens c.in_ok-taken.ensures ∙ c.loop-taken.invariant

@@ -3,7 +3,7 @@ use Rattle.event_log.specs.Model.{env}
 use Rattle.reader.proofs.list.take_all.Given as goal
 
 abbrev pub invariant-loop-taken : goal.invariant-loop-taken
-invariant-loop-taken l = env l.reading.log ≡ env l.initial.reading.log
+invariant-loop-taken l = env l.reading.parser ≡ env l.initial.reading.parser
 
 abbrev pub decreases-loop-taken : goal.decreases-loop-taken
-decreases-loop-taken l = length l.reading.log.input.kinds.now - l.reading.log.place
+decreases-loop-taken l = length l.reading.parser.input.kinds.now - l.reading.parser.place

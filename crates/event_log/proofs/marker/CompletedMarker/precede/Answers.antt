@@ -1,7 +1,7 @@
 use Rattle.std.proofs.Common.{◌<◌, refl, arith, length-set}
 use lib.Seq.{take-set-lt}
-use Rattle.event_log.proofs.Slots.{kept, blanks_set}
-use Rattle.event_log.proofs.Nodes.{counted, started_at, count_started, no_precede, start_below, below, precedes}
+use Rattle.event_log.proofs.Slots.{counted, kept, blanks_set}
+use Rattle.event_log.proofs.Nodes.{started_at, count_started, no_precede, start_below, below, precedes}
 use Rattle.event_log.proofs.marker.CompletedMarker.precede.Goals as goal
 
 pub returns-in_err-m : goal.returns-in_err-m
@@ -25,11 +25,10 @@ pub invariant_of-p : goal.invariant_of-p
 invariant_of-p c =
     let p = c.args.p.now in
     let q = c.start.new.self in
-    let l = q.log in
-    let lt : c.args.self.start < l.count = omega (arith, start_below c.requires, counted p, count_started p q c.in_ok-m.ensures) in
+    let lt : c.args.self.start < q.count = omega (arith, start_below c.requires, counted p, count_started p q c.in_ok-m.ensures) in
     record {
       within = q.within;
-      roomy = kept l.records.now _ _ q.roomy;
+      roomy = kept q.records.now _ _ q.roomy;
       short = rw length-set q.short;
       few = q.few;
       inside = q.inside;
@@ -40,7 +39,6 @@ pub returns : goal.returns
 returns c b n h =
     let p = c.args.p.now in
     let q = c.start.new.self in
-    let l = q.log in
-    let lt : c.args.self.start < l.count = omega (arith, start_below c.requires, counted p, count_started p q c.in_ok-m.ensures) in
-    precedes _ h c.in_ok-m.ensures (take-set-lt l.count l.records.now c.args.self.start _ lt)
-    (record { place = refl; clean = refl; same = refl; long = length-set l.records.now _ _ })
+    let lt : c.args.self.start < q.count = omega (arith, start_below c.requires, counted p, count_started p q c.in_ok-m.ensures) in
+    precedes _ h c.in_ok-m.ensures (take-set-lt q.count q.records.now c.args.self.start _ lt)
+    (record { place = refl; clean = refl; same = refl; long = length-set q.records.now _ _ })

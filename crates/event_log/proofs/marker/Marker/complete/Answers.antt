@@ -1,7 +1,7 @@
 use Rattle.std.proofs.Common.{◌<◌, sym, refl, arith, length-set}
 use lib.Seq.{take-set-lt}
-use Rattle.event_log.proofs.Slots.{kept, blanks_set}
-use Rattle.event_log.proofs.Nodes.{counted, count_pushed, no_complete, completes}
+use Rattle.event_log.proofs.Slots.{counted, kept, blanks_set}
+use Rattle.event_log.proofs.Nodes.{count_pushed, no_complete, completes}
 use Rattle.event_log.proofs.marker.Marker.complete.Goals as goal
 
 pub returns-in_err-push : goal.returns-in_err-push
@@ -17,11 +17,10 @@ pub invariant_of-p : goal.invariant_of-p
 invariant_of-p c =
     let p = c.args.p.now in
     let q = c.push.new.self in
-    let l = q.log in
-    let lt : c.args.self.at < l.count = omega (arith, c.requires.opened, counted p, count_pushed p q c.in_ok-push.ensures) in
+    let lt : c.args.self.at < q.count = omega (arith, c.requires.opened, counted p, count_pushed p q c.in_ok-push.ensures) in
     record {
       within = q.within;
-      roomy = kept l.records.now _ _ q.roomy;
+      roomy = kept q.records.now _ _ q.roomy;
       short = rw length-set q.short;
       few = q.few;
       inside = q.inside;
@@ -32,7 +31,6 @@ pub returns : goal.returns
 returns c b rs w i =
     let p = c.args.p.now in
     let q = c.push.new.self in
-    let l = q.log in
-    let lt : c.args.self.at < l.count = omega (arith, c.requires.opened, counted p, count_pushed p q c.in_ok-push.ensures) in
-    completes _ _ c.requires.named c.in_ok-push.ensures i (take-set-lt l.count l.records.now c.args.self.at _ lt)
-    (record { place = refl; clean = refl; same = refl; long = length-set l.records.now _ _ }) refl (sym (counted q)) refl
+    let lt : c.args.self.at < q.count = omega (arith, c.requires.opened, counted p, count_pushed p q c.in_ok-push.ensures) in
+    completes _ _ c.requires.named c.in_ok-push.ensures i (take-set-lt q.count q.records.now c.args.self.at _ lt)
+    (record { place = refl; clean = refl; same = refl; long = length-set q.records.now _ _ }) refl (sym (counted q)) refl

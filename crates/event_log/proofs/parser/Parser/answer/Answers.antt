@@ -7,18 +7,16 @@ use Rattle.event_log.proofs.parser.Parser.answer.Goals as goal
 
 pub returns-then-current-eq-EOF : goal.returns-then-current-eq-EOF
 returns-then-current-eq-EOF c =
-    let l = c.args.self.now.log in
-    c.answer_at_end.ensures ∙ sym (no_answer (env l) l.place c.args.hook (at_end c.current.ensures c.if-current-eq-EOF.true))
+    let p = c.args.self.now in
+    c.answer_at_end.ensures ∙ sym (no_answer (env p) p.place c.args.hook (at_end c.current.ensures c.if-current-eq-EOF.true))
 
 pub bounds-self-self : goal.bounds-self-self
 bounds-self-self c =
     let p = c.args.self.now in
-    let l = p.log in
-    omega (arith, within (env l) l.place (λ e. c.if-current-eq-EOF.false (c.current.ensures ∙ e)), as_many_rows l.input.kinds.now l.rows.now c.requires)
+    omega (arith, within (env p) p.place (λ e. c.if-current-eq-EOF.false (c.current.ensures ∙ e)), as_many_rows p.input.kinds.now p.rows.now c.requires)
 
 pub returns : goal.returns
 returns c =
     let p = c.args.self.now in
-    let l = p.log in
-    c.answer.ensures ∙ sym (answer_is (env l) l.place c.args.hook _ (not_at_end c.current.ensures c.if-current-eq-EOF.false)
-    (omega (arith, within (env l) l.place (λ e. c.if-current-eq-EOF.false (c.current.ensures ∙ e)), as_many_rows l.input.kinds.now l.rows.now c.requires)))
+    c.answer.ensures ∙ sym (answer_is (env p) p.place c.args.hook _ (not_at_end c.current.ensures c.if-current-eq-EOF.false)
+    (omega (arith, within (env p) p.place (λ e. c.if-current-eq-EOF.false (c.current.ensures ∙ e)), as_many_rows p.input.kinds.now p.rows.now c.requires)))

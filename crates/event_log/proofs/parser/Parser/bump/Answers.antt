@@ -6,7 +6,7 @@ use Rattle.event_log.proofs.Ahead.{spells_present}
 use Rattle.event_log.proofs.parser.Parser.bump.Goals as goal
 
 pub do_bump-requires : goal.do_bump-requires
-do_bump-requires c = let l = c.args.self.now.log in spells_present (env l) l.place c.args.kind _ c.width.ensures c.requires
+do_bump-requires c = let p = c.args.self.now in spells_present (env p) p.place c.args.kind _ c.width.ensures c.requires
 
 pub returns : goal.returns
 unfolding bump

@@ -9,8 +9,8 @@ returns-then-next-eq-EOF c = looks (yes _ (at_end c.current-next.ensures c.if-ne
 
 pub do_bump-requires : goal.do_bump-requires
 do_bump-requires c =
-    let l = c.args.self.now.log in
-    spells_raw (env l) l.place _ (λ e. c.if-next-eq-EOF.false (c.current-next.ensures ∙ e)) (sym c.current-next.ensures)
+    let p = c.args.self.now in
+    spells_raw (env p) p.place _ (λ e. c.if-next-eq-EOF.false (c.current-next.ensures ∙ e)) (sym c.current-next.ensures)
 
 pub returns : goal.returns
 returns c = looks (nay _ (not_at_end c.current-next.ensures c.if-next-eq-EOF.false) (took c.current-next.ensures refl c.do_bump.ensures))

@@ -9,21 +9,21 @@ returns-in_err-push c = not_taken c.requires c.in_err-push.ensures _ c.from_resi
 
 pub overflow_add-self : goal.overflow_add-self
 overflow_add-self c =
-    let l = c.args.self.now.log in
-    let h = pushed_within c.args.width c.in_ok-push.ensures (spelt_within (env l) l.place c.args.kind c.args.width c.requires) in
+    let p = c.args.self.now in
+    let h = pushed_within c.args.width c.in_ok-push.ensures (spelt_within (env p) p.place c.args.kind c.args.width c.requires) in
     let few = c.push.new.self.few in
     search rules
 
 pub invariant_of-self : goal.invariant_of-self
 invariant_of-self c =
-    let l = c.args.self.now.log in
+    let p = c.args.self.now in
     let q = c.push.new.self in
     record {
       within = q.within;
       roomy = q.roomy;
       short = q.short;
       few = q.few;
-      inside = pushed_within c.args.width c.in_ok-push.ensures (spelt_within (env l) l.place c.args.kind c.args.width c.requires);
+      inside = pushed_within c.args.width c.in_ok-push.ensures (spelt_within (env p) p.place c.args.kind c.args.width c.requires);
       blanks = q.blanks;
     }
 

@@ -12,8 +12,7 @@ returns-in_err-m-in-Some c = looks (island_by c.args.hook c.answer-answer.ensure
 pub close-requires : goal.close-requires
 close-requires c =
     let p = c.args.self.now in
-    let l = p.log in
-    record { opened = opens c.in_ok-m-in-Some.ensures c.island_inside-r.ensures; named = kind_named (env l) l.place c.args.hook c.requires c.answer-answer.ensures c.in-Some.is }
+    record { opened = opens c.in_ok-m-in-Some.ensures c.island_inside-r.ensures; named = kind_named (env p) p.place c.args.hook c.requires c.answer-answer.ensures c.in-Some.is }
 
 pub returns-in_ok-m-in-Some : goal.returns-in_ok-m-in-Some
 unfolding island

@@ -1,5 +1,6 @@
 use Rattle.std.proofs.Common.{sym}
-use Rattle.event_log.proofs.Nodes.{counted, starts, no_start}
+use Rattle.event_log.proofs.Slots.{counted}
+use Rattle.event_log.proofs.Nodes.{starts, no_start}
 use Rattle.event_log.proofs.parser.Parser.start.Goals as goal
 
 pub returns-in_err-push : goal.returns-in_err-push

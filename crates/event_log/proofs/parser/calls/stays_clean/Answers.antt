@@ -1,10 +1,12 @@
+use Rattle.std.proofs.Common.{refl}
 use Rattle.event_log.specs.Model.{faultless}
-use Rattle.event_log.proofs.Growth.{and_false, and_true, faultless_one}
+use Rattle.event_log.proofs.Growth.{and_false, faultless_one}
 use Rattle.event_log.proofs.parser.calls.stays_clean.Goals as goal
+use Rattle.event_log.proofs.parser.calls.stays_clean.Goals.{in-Error, in_default}
 
-pub returns-in-Error : goal.returns-in-Error
+pub returns-after-matches : goal.returns-after-matches
 unfolding faultless
-returns-in-Error c = rw c.in-Error.is (and_false c.args.clean)
-
-pub returns-in_default : goal.returns-in_default
-returns-in_default c = rw (faultless_one c.args.entry c.in_default.not-Error) (and_true c.args.clean)
+returns-after-matches c = elim c.match-matches.branch [
+  | in-Error w ↦ rw (w.matches-is, w.in-Error.is) (and_false c.args.clean)
+  | in_default w ↦ rw (w.matches-is, faultless_one c.args.entry w.in_default.not-Error, c.if-clean.true) refl
+]

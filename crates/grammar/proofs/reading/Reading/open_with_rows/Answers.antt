@@ -1,19 +1,20 @@
 use Rattle.std.proofs.Common.{length, sym, refl}
-use Rattle.event_log.proofs.Performing.{new_with_rows_sound}
 use Rattle.grammar.specs.Open.OpensWithRows.{opened, refused}
 use Rattle.grammar.proofs.Verdicts.{few_tokens, few_records, columns_fine, rows_fine}
-use Rattle.grammar.proofs.Readings.{reached_none, fields}
+use Rattle.grammar.proofs.Readings.{reached_none}
 use Rattle.grammar.proofs.reading.Reading.open_with_rows.Goals as goal
 
 pub returns-in-Err : goal.returns-in-Err
 returns-in-Err c = refused (sym c.in-Err.ensures) refl refl
 
-pub invariant_of-self : goal.invariant_of-self
-invariant_of-self c =
+pub with_rows-self-requires : goal.with_rows-self-requires
+with_rows-self-requires c =
     let n = length c.args.records.now in
-    let h = c.with_rows-self.ensures in
     let v = columns_fine c.args.input c.args.rows.now n (sym c.in_default.ensures) in
-    fields (new_with_rows_sound h (few_records c.args.input n v) (few_tokens c.args.input n v)) (reached_none c.with_rows-self.result h.count h.place)
+    record { few = few_tokens c.args.input n v; short = few_records c.args.input n v }
+
+pub invariant_of-self : goal.invariant_of-self
+invariant_of-self c = let h = c.with_rows-self.ensures in record { reached = reached_none c.with_rows-self.result h.count h.place }
 
 pub returns : goal.returns
 returns c =

@@ -1,4 +1,4 @@
-use Rattle.event_log.proofs.records.Log.new.Goals as goal
+use Rattle.event_log.proofs.parser.Parser.new.Goals as goal
 
 pub returns : goal.returns
 returns c =
