@@ -1,14 +1,15 @@
+use Rattle.std.proofs.Common.{refl}
 use Rattle.std.proofs.Common.{◌∙◌}
 use Rattle.grammar.specs.Verdict.{fault}
 use Rattle.grammar.proofs.Verdicts.{by_tokens, by_lengths, by_kinds, by_contextual, by_editions, same_length, broke}
 use Rattle.grammar.proofs.check.check.Goals as goal
 
 pub returns-then-input-gt-MAX_TOKENS : goal.returns-then-input-gt-MAX_TOKENS
-returns-then-input-gt-MAX_TOKENS c = by_tokens c.args.input c.args.records c.if-input-gt-MAX_TOKENS.true c.too_many_tokens.ensures
+returns-then-input-gt-MAX_TOKENS c = by_tokens c.args.input c.args.records c.if-input-gt-MAX_TOKENS.true refl
 
 pub returns-then-not-lengths_fit : goal.returns-then-not-lengths_fit
 returns-then-not-lengths_fit c =
-    by_lengths c.args.input c.args.records c.if-input-gt-MAX_TOKENS.false c.if-not-lengths_fit.ensures c.column_length.ensures
+    by_lengths c.args.input c.args.records c.if-input-gt-MAX_TOKENS.false c.if-not-lengths_fit.ensures refl
 
 pub returns-in_err-check_kinds : goal.returns-in_err-check_kinds
 returns-in_err-check_kinds c =
