@@ -1,7 +1,7 @@
 -- Which tokens are next.
 use Rattle.std.proofs.Common.{◌≡◌, ℕ, ◌+◌, ◌<◌, ◌≤◌, Bool, true, false, not, ◌&&◌, eqb, length, sym, refl, ap, ◌∙◌, ⊎_elim, arith}
 use Rattle.std.proofs.lemmas.List.{get_or_past}
-use Rattle.std.proofs.lemmas.Bool.{and_left, and_right, and_from, and_parts, or_left, or_right, or_cases, ne_eqb, eq-eqb, eqb-true, eqb-false, not-true, cases_lt, not_from_false, not_from_true, cond_both}
+use Rattle.std.proofs.lemmas.Bool.{and_left, and_right, and_from, and_parts, or_left, or_right, or_cases, ne_eqb, eq-eqb, eqb-true, eqb-false, not-true, cases_lt, not_from_false, cond_both}
 use Rattle.tokens.specs.Kinds.{EOF}
 use Rattle.tokens.specs.declared.composite.RawTokens.{RawTokens}
 use Rattle.tokens.specs.declared.composite.RawTokens.TheVariants.{One, Two, Three}
@@ -20,18 +20,6 @@ at_end p q = eq-eqb _ _ (sym p ∙ q)
 
 pub not_at_end : {k r : ℕ} → r ≡ k → (r ≡ EOF → ⊥) → eqb k EOF ≡ false
 not_at_end p q = ne_eqb _ _ (λ e. q (p ∙ e))
-
-pub absent_at_end : {k r : ℕ} (b : Bool) → r ≡ k → r ≡ EOF → (not (eqb k EOF) && b) ≡ false
-absent_at_end {k} b p q = and_left (not (eqb k EOF)) b (not_from_true _ (at_end p q))
-
-pub absent : (c b : Bool) → b ≡ false → (c && b) ≡ false
-absent c b p = and_right c b p
-
-pub no_keyword : (c b : Bool) {k : ℕ} → k ≡ EOF → (c && (not (eqb k EOF) && b)) ≡ false
-no_keyword c b {k} p = and_right c _ (and_left (not (eqb k EOF)) b (not_from_true _ (eq-eqb _ _ p)))
-
-pub other_keyword : (e : Env) (i k : ℕ) → eqb (contextual_at e i) k ≡ false → readable e i k ≡ false
-other_keyword e i k p = and_right _ _ (and_right (not (eqb k EOF)) _ p)
 
 -- What is next, it spells
 

@@ -1,6 +1,5 @@
--- What a call does to a log.
+-- What a call does to a parser.
 use Rattle.std.specs.Prelude.{◌≡◌, ℕ, ◌+◌, ◌-◌, ◌<◌, ◌≤◌, Bool, true, false, ◌&&◌, List, [], ◌∷◌, ◌++◌, length, replicate, Ok, Err, Result}
-use Rattle.std.specs.Borrow.{MutBor}
 use Rattle.std.proofs.Math.ListN as list
 use Rattle.event_log.specs.declared.event.Record.{Record}
 use Rattle.event_log.specs.declared.event.Record.TheVariants.{Start, Finish, Token, Error}
@@ -31,7 +30,7 @@ Rowed l = rows_fit l.input.kinds.now l.rows.now ≡ true
 abbrev pub env : Parser → Env
 env l = env_with_rows l.input l.rows.now l.room
 
--- All that the definitions see of a log. What lies past its count is not seen.
+-- All that the definitions see of a parser. What lies past its count is not seen.
 pub record State : Type 0 where
   pub recs : List Record
   pub place : ℕ
@@ -86,7 +85,7 @@ pub data Pushes (r : Record) (s t : State) : Result (Unit {0}) Refusal → Type 
 abbrev pub blanked : List Record → ℕ → ℕ → List Record
 blanked l from to = list.take from l ++ (replicate (to - from) blank ++ list.drop to l)
 
--- All of a log: these records, and from there on blanks, so many in all.
+-- All of the log: these records, and from there on blanks, so many in all.
 abbrev pub filled : List Record → ℕ → List Record
 filled rs n = rs ++ replicate (n - length rs) blank
 
@@ -97,15 +96,7 @@ pub record Holds (l m : Parser) (rs : List Record) (i : ℕ) : Type 0 where
   pub place : m.place ≡ i
   pub same : env m ≡ env l
 
--- A log before the first of these tokens, with these rows, over these records.
-pub record Begun (input : Input) (rows : List Row) (records : MutBor (List Record)) (l : Parser) : Type 0 where
-  pub over : l.records ≡ records
-  pub count : l.count ≡ 0
-  pub place : l.place ≡ 0
-  pub clean : l.clean ≡ true
-  pub same : env l ≡ env_with_rows input rows (length records.now)
-
--- A log before the first of these tokens, with so many records, all blank.
+-- A parser before the first of these tokens, with so many records, all blank.
 pub record New (input : Input) (n : ℕ) (l : Parser) : Type 0 where
   pub log : l.records.now ≡ replicate n blank
   pub count : l.count ≡ 0
