@@ -1,8 +1,11 @@
 -- Chains of forward parents: where they lead, and which starts they use.
-use Rattle.std.proofs.Common.{◌≡◌, ℕ, zero, suc, ◌+◌, ◌-◌, ◌<◌, ◌≤◌, Bool, true, false, cond, ◌&&◌, ltb, ◌⊎◌, List, [], ◌∷◌, ◌++◌, length, get_or, take, drop, set, Some, None, Option, sym, refl, ap, ◌∙◌, inl, inr, append_assoc, append-nil, arith, length-drop, take-append-drop, get_or-drop, drop-cons, drop-drop, take-add}
+use Rattle.std.proofs.Common.{◌≡◌, ℕ, zero, suc, ◌+◌, ◌-◌, ◌<◌, ◌≤◌, Bool, true, false, cond, ◌⊎◌, List, [], ◌∷◌, ◌++◌, length, take, drop, set, Some, None, Option, sym, refl, ap, ◌∙◌, inl, inr, append_assoc, append-nil, arith, length-drop, take-append-drop, get_or-drop, drop-cons, drop-drop, take-add}
 use native.Mathlib.Nat.{suc_inj}
-use Rattle.std.proofs.lemmas.List.{get_or_default, get_or_past}
-use Rattle.std.proofs.lemmas.Bool.{both_ways, cases_lt, lt-ltb, and_right, and_from}
+use Rattle.std.specs.Prelude.{slice_get, IsSome}
+use Rattle.std.specs.Option.{option_map}
+use Rattle.std.proofs.lemmas.List.{get_or_past}
+use Rattle.std.proofs.lemmas.Bool.{both_ways, cases_lt, lt-ltb}
+use Rattle.std.proofs.lemmas.Option.{slice_get_within, get_or_from_slice_get}
 use Rattle.event_log.specs.declared.event.Record.{Record}
 use Rattle.event_log.specs.declared.event.Record.TheVariants.{Start, Finish, Token, Error}
 use Rattle.event_log.specs.declared.item.Item.{Item}
@@ -33,7 +36,7 @@ use_up_none (r ∷ rs) (suc n) [] l h = absurd (omega arith)
 use_up_none (r ∷ rs) (suc n) (u ∷ us) l h = ap (λ (vs : List Bool). u ∷ vs) (use_up_none rs n us (suc_inj l) h)
 
 -- a start lies inside
-pub start_within : (rs : List Record) (i : ℕ) → is_start (at rs i) ≡ true → i < length rs
+start_within : (rs : List Record) (i : ℕ) → is_start (at rs i) ≡ true → i < length rs
 start_within rs i h = go (cases_lt i (length rs))
   where
     go : (i < length rs) ⊎ (length rs ≤ i) → i < length rs
@@ -52,17 +55,6 @@ pub chain_is : (rs : List Record) (i : ℕ) → is_start (at rs i) ≡ true → 
 unfolding climb
 chain_is rs i h =
     ap (climb (Some 0)) (drop-cons rs i Finish (start_within rs i h) ∙ ap (λ (r : Record). r ∷ drop (suc i) rs) (start_is (at rs i) h))
-
--- a chain that has starts begins at one
-pub chain_starts : (rs : List Record) (i : ℕ) → i < length rs → 0 < length (chain rs i) → is_start (at rs i) ≡ true
-chain_starts rs i lt h = go (is_start (at rs i)) refl
-  where
-    none : is_start (at rs i) ≡ false → chain rs i ≡ []
-    none e = climb_none (drop i rs) 0 (ap is_start (get_or-drop i rs 0 Finish ∙ ap (at rs) (omega arith)) ∙ e)
-
-    go : (b : Bool) → is_start (at rs i) ≡ b → is_start (at rs i) ≡ true
-    go true e = e
-    go false e = absurd (let z = ap length (none e) in omega arith)
 
 -- Where a forward offset leads to: to the end of the chain, or to the next start.
 pub data Onward (rs : List Record) (i : ℕ) (fp : Option ℕ) : Option ℕ → Type 0 where
@@ -92,7 +84,7 @@ onward rs i (Some (suc n)) lt = rw (lt-ltb 0 (suc n) (omega arith)) (go (is_star
 -- The next start of a chain.
 pub record Next (rs : List Record) (i j : ℕ) : Type 0 where
   pub further : i < j
-  pub started : is_start (at rs j) ≡ true
+  pub within : j < length rs
   pub chained : chain rs i ≡ kind_of (at rs i) ∷ chain rs j
   pub marked : (us : List Bool) → length us ≡ length rs → mark_chain rs i us ≡ mark_chain rs j (set us j true)
 
@@ -105,7 +97,7 @@ module _ (rs : List Record) (i : ℕ) (h : is_start (at rs i) ≡ true) where
   next_by o (top c m) e = absurd (let z : ◌≡◌ {A = ℕ} 0 1 = cc in omega arith)
   next_by o (on {j = k} f s c m) {j} e = rw (let q : j ≡ k = cc in q) (record {
     further = f;
-    started = s;
+    within = start_within rs k s;
     chained = chain_is rs i h ∙ ap (λ (ks : List ℕ). kind_of (at rs i) ∷ ks) c;
     marked = m;
   })
@@ -114,75 +106,40 @@ module _ (rs : List Record) (i : ℕ) (h : is_start (at rs i) ≡ true) where
   top_by o (top c m) e = record { chained = chain_is rs i h ∙ ap (λ (ks : List ℕ). kind_of (at rs i) ∷ ks) c; marked = m }
   top_by o (on f s c m) e = absurd (let z : ◌≡◌ {A = ℕ} 0 1 = cc in omega arith)
 
-  pub next_start : {j : ℕ} → Some j ≡ parent_of rs i → Next rs i j
-  next_start e = next_by (parent_of rs i) (onward rs i (forward_of (at rs i)) (start_within rs i h)) e
-
-  pub last_start : None ≡ parent_of rs i → Top rs i
-  last_start e = top_by (parent_of rs i) (onward rs i (forward_of (at rs i)) (start_within rs i h)) e
-
--- ---- the code that looks for a forward parent
-
--- a record, whatever stands for one past the end
-pub read_at : (rs : List Record) (i : ℕ) (d : Record) → i < length rs → get_or rs i d ≡ at rs i
-read_at rs i d h = get_or_default rs i d Finish h
-
-abbrev pub NoStart : Record → Type 0
-NoStart r = (k : ℕ) (fp : Option ℕ) → r ≡ Start k fp → ⊥
-
-not_start : (r : Record) → NoStart r → is_start r ≡ false
-not_start (Start k fp) h = absurd (h k fp refl)
-not_start Finish h = refl
-not_start (Token k w) h = refl
-not_start (Error n k) h = refl
-
-no_forward : (r : Record) → NoStart r → forward_of r ≡ None
-no_forward (Start k fp) h = absurd (h k fp refl)
-no_forward Finish h = refl
-no_forward (Token k w) h = refl
-no_forward (Error n k) h = refl
-
-module _ (rs : List Record) (i : ℕ) (d : Record) (lt : i < length rs) where
-  pub no_parent : NoStart (get_or rs i d) → None ≡ parent_of rs i
-  no_parent h = sym (ap (ahead rs i) (no_forward (at rs i) (λ k fp e. h k fp (read_at rs i d lt ∙ e))))
-
-  pub parent_by : {k : ℕ} {fp o : Option ℕ} → get_or rs i d ≡ Start k fp → fp ≡ o → ahead rs i o ≡ parent_of rs i
-  parent_by e p = sym (ap (λ (r : Record). ahead rs i (forward_of r)) (sym (read_at rs i d lt) ∙ e) ∙ ap (ahead rs i) p)
-
--- an offset that leads nowhere, or to no start
-pub ahead_zero : (rs : List Record) (i n : ℕ) → n ≡ 0 → None ≡ ahead rs i (Some n)
-ahead_zero rs i n e = sym (ap (λ (m : ℕ). cond (ltb 0 m && is_start (at rs (i + m))) (Some (i + m)) None) e)
-
-pub ahead_past : (rs : List Record) (i n : ℕ) → length rs ≤ i + n → None ≡ ahead rs i (Some n)
-ahead_past rs i n h = sym (ap (λ (b : Bool). cond b (Some (i + n)) None) (and_right (ltb 0 n) _ (ap is_start (get_or_past rs (i + n) Finish h))))
-
-pub ahead_other : (rs : List Record) (i n : ℕ) (d : Record) → i + n < length rs → NoStart (get_or rs (i + n) d) → None ≡ ahead rs i (Some n)
-ahead_other rs i n d lt h =
-    sym (ap (λ (b : Bool). cond b (Some (i + n)) None) (and_right (ltb 0 n) _ (not_start (at rs (i + n)) (λ k fp e. h k fp (read_at rs (i + n) d lt ∙ e)))))
-
-pub ahead_start : (rs : List Record) (i n : ℕ) (d : Record) {k : ℕ} {fp : Option ℕ} → (n ≡ 0 → ⊥) → i + n < length rs → get_or rs (i + n) d ≡ Start k fp → Some (i + n) ≡ ahead rs i (Some n)
-ahead_start rs i n d z lt e =
-    sym (ap (λ (b : Bool). cond b (Some (i + n)) None) (and_from (ltb 0 n) _ (lt-ltb 0 n (omega (arith, z))) (ap is_start (sym (read_at rs (i + n) d lt) ∙ e))))
-
 -- ---- the code that goes along a chain
 
--- one step more
-pub along : (rs : List Record) (i j k n : ℕ) → Next rs j k → chain rs j ≡ drop n (chain rs i) → chain rs k ≡ drop (n + 1) (chain rs i)
-along rs i j k n h e = ap (drop 1) (sym h.chained ∙ e) ∙ drop-drop 1 n (chain rs i)
+-- records with a start at i
+module _ (rs : List Record) (i : ℕ) {k : ℕ} {fp : Option ℕ} (h : slice_get rs i ≡ Some (Start k fp)) where
+  pub start_at : at rs i ≡ Start k fp
+  start_at = get_or_from_slice_get rs i (Start k fp) Finish h
 
--- a chain that goes on does not end here
-pub goes_on : (rs : List Record) (i j n : ℕ) → Top rs j → chain rs j ≡ drop n (chain rs i) → n + 1 < length (chain rs i) → ⊥
-goes_on rs i j n h e l = omega (arith, ap length (sym h.chained ∙ e), length-drop n (chain rs i))
+  pub chain_some : 0 < length (chain rs i)
+  chain_some = omega (arith, ap length (chain_is rs i (ap is_start start_at)))
 
--- it begins at a start, as long as there is something left of it
-pub along_start : (rs : List Record) (i j n : ℕ) → j < length rs → chain rs j ≡ drop n (chain rs i) → n < length (chain rs i) → is_start (at rs j) ≡ true
-along_start rs i j n lt e l = chain_starts rs j lt (omega (arith, ap length e, length-drop n (chain rs i)))
+  pub first_start : take 1 (chain rs i) ≡ k ∷ []
+  first_start = ap (take 1) (chain_is rs i (ap is_start start_at)) ∙ ap (λ (r : Record). kind_of r ∷ []) start_at
+
+  onward_here : Onward rs i (forward_of (at rs i)) (parent_of rs i)
+  onward_here = onward rs i (forward_of (at rs i)) (slice_get_within rs i (Start k fp) h)
+
+  -- under another name of the records too
+  pub next_start : {qs : List Record} {j : ℕ} → rs ≡ qs → Some j ≡ parent_of rs i → Next qs i j
+  next_start e p = rw e at (next_by rs i (ap is_start start_at) (parent_of rs i) onward_here p)
+
+  pub last_start : {qs : List Record} → rs ≡ qs → None ≡ parent_of rs i → Top qs i
+  last_start e p = rw e at (top_by rs i (ap is_start start_at) (parent_of rs i) onward_here p)
+
+-- at a start that is n steps along some chain, which goes on: there is a next one
+module _ (rs : List Record) (i n : ℕ) {k : ℕ} {fp : Option ℕ} (ks : List ℕ) (h : slice_get rs i ≡ Some (Start k fp)) (e : chain rs i ≡ drop n ks) where
+  pub is_on : {X : Type 0} (place : X → ℕ) (o : Option X) → n + 1 < length ks → option_map place o ≡ parent_of rs i → IsSome o
+  is_on place (Some x) l p = refl
+  is_on place None l p = absurd (omega (arith, l, ap length (sym (last_start rs i h refl p).chained ∙ e), length-drop n ks))
+
+  -- under another name of the records too
+  pub along : {qs : List Record} {j : ℕ} → qs ≡ rs → Some j ≡ parent_of rs i → chain qs j ≡ drop (n + 1) ks
+  along {j = j} q p = ap (λ (rs : List Record). chain rs j) q ∙ ap (drop 1) (sym (next_start rs i h refl p).chained ∙ e) ∙ drop-drop 1 n ks
 
 -- ---- the code that enters a chain
-
-pub first_start : (rs : List Record) (i : ℕ) (d : Record) {k : ℕ} {fp : Option ℕ} → i < length rs → get_or rs i d ≡ Start k fp → take 1 (chain rs i) ≡ k ∷ []
-first_start rs i d lt e =
-    let s = sym (read_at rs i d lt) ∙ e in
-    ap (take 1) (chain_is rs i (ap is_start s)) ∙ ap (λ (r : Record). kind_of r ∷ []) s
 
 pub entered : (k : ℕ) (ks : List ℕ) → ks ≡ k ∷ [] → (k ≡ 0 → ⊥) → enter k ∷ [] ≡ enters ks
 unfolding enters enter_unless_0
@@ -201,6 +158,3 @@ enters_append (k ∷ ks) js = ap (λ (is : List Item). is ++ enter_unless_0 k) (
 
 pub enters_halves : (ks : List ℕ) (m n : ℕ) → m ≤ n → enters (take (n - m) (drop m ks)) ++ enters (take m ks) ≡ enters (take n ks)
 enters_halves ks m n h = sym (enters_append (take m ks) (take (n - m) (drop m ks))) ∙ ap enters (sym (take-add m (n - m) ks) ∙ ap (λ (k : ℕ). take k ks) (omega arith))
-
-pub no_start : (rs : List Record) (i : ℕ) (d : Record) → i < length rs → NoStart (get_or rs i d) → is_start (at rs i) ≡ true → ⊥
-no_start rs i d lt h e = both_ways (is_start (at rs i)) (not_start (at rs i) (λ k fp q. h k fp (read_at rs i d lt ∙ q))) e

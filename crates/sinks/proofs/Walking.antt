@@ -1,5 +1,5 @@
 -- A walk: the marks before and after it.
-use Rattle.std.proofs.Common.{◌≡◌, ℕ, ◌<◌, ◌≤◌, List, ◌++◌, length, drop, replicate, Err, Result, refl, ap, ◌∙◌}
+use Rattle.std.proofs.Common.{◌≡◌, ℕ, ◌<◌, ◌≤◌, List, ◌++◌, length, take, drop, replicate, Err, Result, refl, ap, ◌∙◌, length-take-le}
 use Rattle.event_log.specs.declared.event.Record.{Record}
 use Rattle.event_log.specs.declared.item.Item.{Item}
 use Rattle.refusals.specs.declared.Refusal.{Refusal}
@@ -30,3 +30,7 @@ module _ {size : Item → ℕ} (rs : List Record) (l : List ℕ) {s : Heard} whe
     where
       zeros : cleared (length rs) k ≡ cleared (length rs) l
       zeros = ap (λ (xs : List ℕ). replicate (length rs) 0 ++ xs) (others ∙ ap (drop (length rs)) clear ∙ drop_cleared (length rs) l)
+
+-- what is left where the first n marks are filled with zeros
+pub filled : (n : ℕ) (l : List ℕ) {xs : List ℕ} → n ≤ length l → xs ≡ replicate (length (take n l)) 0 → xs ++ drop n l ≡ cleared n l
+filled n l h e = ap (λ (ys : List ℕ). ys ++ drop n l) (e ∙ ap (λ (m : ℕ). replicate m 0) (length-take-le n l h))
