@@ -1,17 +1,20 @@
 -- Chains of forward parents: where they lead, and which starts they use.
-use Rattle.std.proofs.Common.{◌≡◌, ℕ, zero, suc, ◌+◌, ◌-◌, ◌<◌, ◌≤◌, Bool, true, false, cond, ◌⊎◌, List, [], ◌∷◌, ◌++◌, length, take, drop, set, Some, None, Option, sym, refl, ap, ◌∙◌, inl, inr, append_assoc, append-nil, arith, length-drop, take-append-drop, get_or-drop, drop-cons, drop-drop, take-add}
+use Rattle.std.proofs.Common.{◌≡◌, ℕ, zero, suc, ◌+◌, ◌-◌, ◌<◌, ◌≤◌, Bool, true, false, cond, ◌⊎◌, List, [], ◌∷◌, ◌++◌, length, take, drop, set, Some, None, Ok, Err, Option, Result, IsErrAnd, sym, refl, ap, ◌∙◌, subst, inl, inr, append_assoc, append-nil, arith, length-drop, take-append-drop, get_or-drop, drop-cons, drop-drop, take-add}
 use native.Mathlib.Nat.{suc_inj}
 use Rattle.std.specs.Prelude.{slice_get, IsSome}
 use Rattle.std.specs.Option.{option_map}
 use Rattle.std.proofs.lemmas.List.{get_or_past}
 use Rattle.std.proofs.lemmas.Bool.{both_ways, cases_lt, lt-ltb}
-use Rattle.std.proofs.lemmas.Option.{slice_get_within, get_or_from_slice_get}
+use Rattle.std.proofs.lemmas.Option.{get_or_from_slice_get}
 use Rattle.event_log.specs.declared.event.Record.{Record}
 use Rattle.event_log.specs.declared.event.Record.TheVariants.{Start, Finish, Token, Error}
 use Rattle.event_log.specs.declared.item.Item.{Item}
 use Rattle.event_log.specs.declared.item.Item.TheVariants.{Enter as enter}
 use Rattle.event_log.specs.Tell.{climb, use_up, enters, enter_unless_0}
 use Rattle.sinks.specs.Walk.{forward_of, is_start, kind_of, at, ahead, parent_of, chain, mark_chain}
+use Rattle.sinks.specs.declared.sink.Full.{Full}
+use Rattle.sinks.specs.Sink.{Heard, Takes, Tells}
+use Rattle.sinks.proofs.Taking.{tells_none, tells_one, tells_then, tells_exit, tells_as}
 use Rattle.sinks.proofs.ByIndex.{marked_from, kinds_from, kinds_step, marks_step, kinds_end, marks_end}
 
 -- ---- where no start is
@@ -56,99 +59,105 @@ unfolding climb
 chain_is rs i h =
     ap (climb (Some 0)) (drop-cons rs i Finish (start_within rs i h) ∙ ap (λ (r : Record). r ∷ drop (suc i) rs) (start_is (at rs i) h))
 
--- Where a forward offset leads to: to the end of the chain, or to the next start.
-pub data Onward (rs : List Record) (i : ℕ) (fp : Option ℕ) : Option ℕ → Type 0 where
-  top : kinds_from rs fp i ≡ [] → ((us : List Bool) → length us ≡ length rs → marked_from rs fp i us ≡ us) → Onward rs i fp None
-  on : {j : ℕ} → i < j → is_start (at rs j) ≡ true → kinds_from rs fp i ≡ chain rs j
-      → ((us : List Bool) → length us ≡ length rs → marked_from rs fp i us ≡ mark_chain rs j (set us j true)) → Onward rs i fp (Some j)
+-- ---- from one start of a chain on
 
-onward : (rs : List Record) (i : ℕ) (fp : Option ℕ) → i < length rs → Onward rs i fp (ahead rs i fp)
-unfolding climb use_up
-onward rs i None lt = top (kinds_end rs i) (λ us l. marks_end rs i us)
-onward rs i (Some zero) lt = top refl (λ us l. take-append-drop (suc i) us)
-onward rs i (Some (suc n)) lt = rw (lt-ltb 0 (suc n) (omega arith)) (go (is_start (at rs (i + suc n))) refl)
-  where
-    there : at (drop (suc i) rs) n ≡ at rs (i + suc n)
-    there = get_or-drop (suc i) rs n Finish ∙ ap (at rs) (omega arith)
-
-    go : (b : Bool) → is_start (at rs (i + suc n)) ≡ b → Onward rs i (Some (suc n)) (cond b (Some (i + suc n)) None)
-    go true e =
-        let j : ℕ = i + suc n in
-        let s : at rs j ≡ Start (kind_of (at rs j)) (forward_of (at rs j)) = start_is (at rs j) e in
-        let w : j < length rs = start_within rs j e in
-        on (omega arith) e (kinds_step rs i n j (kind_of (at rs j)) (forward_of (at rs j)) Finish refl w s ∙ sym (chain_is rs j e))
-        (marks_step rs i n j (kind_of (at rs j)) (forward_of (at rs j)) Finish refl w s)
-    go false e = top (climb_none (drop (suc i) rs) n (ap is_start there ∙ e))
-        (λ us l. ap (λ (vs : List Bool). take (suc i) us ++ vs) (use_up_none (drop (suc i) rs) n (drop (suc i) us) (length-drop (suc i) us ∙ ap (λ (m : ℕ). m - suc i) l ∙ sym (length-drop (suc i) rs)) (ap is_start there ∙ e)) ∙ take-append-drop (suc i) us)
-
--- The next start of a chain.
+-- the next start of a chain
 pub record Next (rs : List Record) (i j : ℕ) : Type 0 where
   pub further : i < j
   pub within : j < length rs
   pub chained : chain rs i ≡ kind_of (at rs i) ∷ chain rs j
   pub marked : (us : List Bool) → length us ≡ length rs → mark_chain rs i us ≡ mark_chain rs j (set us j true)
 
+-- the end of a chain
 pub record Top (rs : List Record) (i : ℕ) : Type 0 where
   pub chained : chain rs i ≡ kind_of (at rs i) ∷ []
   pub marked : (us : List Bool) → length us ≡ length rs → mark_chain rs i us ≡ us
 
-module _ (rs : List Record) (i : ℕ) (h : is_start (at rs i) ≡ true) where
-  next_by : (o : Option ℕ) → Onward rs i (forward_of (at rs i)) o → {j : ℕ} → Some j ≡ o → Next rs i j
-  next_by o (top c m) e = absurd (let z : ◌≡◌ {A = ℕ} 0 1 = cc in omega arith)
-  next_by o (on {j = k} f s c m) {j} e = rw (let q : j ≡ k = cc in q) (record {
-    further = f;
-    within = start_within rs k s;
-    chained = chain_is rs i h ∙ ap (λ (ks : List ℕ). kind_of (at rs i) ∷ ks) c;
-    marked = m;
-  })
-
-  top_by : (o : Option ℕ) → Onward rs i (forward_of (at rs i)) o → None ≡ o → Top rs i
-  top_by o (top c m) e = record { chained = chain_is rs i h ∙ ap (λ (ks : List ℕ). kind_of (at rs i) ∷ ks) c; marked = m }
-  top_by o (on f s c m) e = absurd (let z : ◌≡◌ {A = ℕ} 0 1 = cc in omega arith)
-
--- ---- the code that goes along a chain
+abbrev pub Onward : List Record → ℕ → Option ℕ → Type 0
+Onward rs i None = Top rs i
+Onward rs i (Some j) = Next rs i j
 
 -- records with a start at i
 module _ (rs : List Record) (i : ℕ) {k : ℕ} {fp : Option ℕ} (h : slice_get rs i ≡ Some (Start k fp)) where
   pub start_at : at rs i ≡ Start k fp
   start_at = get_or_from_slice_get rs i (Start k fp) Finish h
 
+  forward : forward_of (at rs i) ≡ fp
+  forward = ap forward_of start_at
+
+  chain_on : chain rs i ≡ kind_of (at rs i) ∷ kinds_from rs fp i
+  chain_on = chain_is rs i (ap is_start start_at) ∙ ap (λ (f : Option ℕ). kind_of (at rs i) ∷ kinds_from rs f i) forward
+
   pub chain_some : 0 < length (chain rs i)
-  chain_some = omega (arith, ap length (chain_is rs i (ap is_start start_at)))
+  chain_some = omega (arith, ap length chain_on)
 
-  pub first_start : take 1 (chain rs i) ≡ k ∷ []
-  first_start = ap (take 1) (chain_is rs i (ap is_start start_at)) ∙ ap (λ (r : Record). kind_of r ∷ []) start_at
+  first_start : take 1 (chain rs i) ≡ k ∷ []
+  first_start = ap (take 1) chain_on ∙ ap (λ (r : Record). kind_of r ∷ []) start_at
 
-  onward_here : Onward rs i (forward_of (at rs i)) (parent_of rs i)
-  onward_here = onward rs i (forward_of (at rs i)) (slice_get_within rs i (Start k fp) h)
+  top : kinds_from rs fp i ≡ [] → ((us : List Bool) → length us ≡ length rs → marked_from rs fp i us ≡ us) → Top rs i
+  top c m = record {
+    chained = chain_on ∙ ap (λ (ks : List ℕ). kind_of (at rs i) ∷ ks) c;
+    marked = λ us l. ap (λ (f : Option ℕ). marked_from rs f i us) forward ∙ m us l;
+  }
 
-  -- under another name of the records too
-  pub next_start : {qs : List Record} {j : ℕ} → rs ≡ qs → Some j ≡ parent_of rs i → Next qs i j
-  next_start e p = rw e at (next_by rs i (ap is_start start_at) (parent_of rs i) onward_here p)
+onward_by : (rs : List Record) (i k : ℕ) (fp : Option ℕ) → slice_get rs i ≡ Some (Start k fp) → Onward rs i (ahead rs i fp)
+unfolding climb use_up
+onward_by rs i k None h = top rs i h (kinds_end rs i) (λ us l. marks_end rs i us)
+onward_by rs i k (Some zero) h = top rs i h refl (λ us l. take-append-drop (suc i) us)
+onward_by rs i k (Some (suc n)) h = rw (lt-ltb 0 (suc n) (omega arith)) (go (is_start (at rs (i + suc n))) refl)
+  where
+    there : at (drop (suc i) rs) n ≡ at rs (i + suc n)
+    there = get_or-drop (suc i) rs n Finish ∙ ap (at rs) (omega arith)
 
-  pub last_start : {qs : List Record} → rs ≡ qs → None ≡ parent_of rs i → Top qs i
-  last_start e p = rw e at (top_by rs i (ap is_start start_at) (parent_of rs i) onward_here p)
+    go : (b : Bool) → is_start (at rs (i + suc n)) ≡ b → Onward rs i (cond b (Some (i + suc n)) None)
+    go true e =
+        let j : ℕ = i + suc n in
+        let s : at rs j ≡ Start (kind_of (at rs j)) (forward_of (at rs j)) = start_is (at rs j) e in
+        let w : j < length rs = start_within rs j e in
+        record {
+          further = omega arith;
+          within = w;
+          chained = chain_on rs i h ∙ ap (λ (ks : List ℕ). kind_of (at rs i) ∷ ks) (kinds_step rs i n j (kind_of (at rs j)) (forward_of (at rs j)) Finish refl w s ∙ sym (chain_is rs j e));
+          marked = λ us l. ap (λ (f : Option ℕ). marked_from rs f i us) (forward rs i h) ∙ marks_step rs i n j (kind_of (at rs j)) (forward_of (at rs j)) Finish refl w s us l;
+        }
+    go false e = top rs i h (climb_none (drop (suc i) rs) n (ap is_start there ∙ e))
+        (λ us l. ap (λ (vs : List Bool). take (suc i) us ++ vs) (use_up_none (drop (suc i) rs) n (drop (suc i) us) (length-drop (suc i) us ∙ ap (λ (m : ℕ). m - suc i) l ∙ sym (length-drop (suc i) rs)) (ap is_start there ∙ e)) ∙ take-append-drop (suc i) us)
+
+-- under another name of the records too
+pub onward : (rs : List Record) (i : ℕ) {k : ℕ} {fp o : Option ℕ} {qs : List Record} → slice_get rs i ≡ Some (Start k fp) → rs ≡ qs → o ≡ parent_of rs i → Onward qs i o
+onward rs i {k} {fp} {o} h e p =
+    let here : Onward rs i o = subst (Onward rs i) (sym (p ∙ ap (ahead rs i) (forward rs i h))) (onward_by rs i k fp h) in
+    rw e at here
 
 -- at a start that is n steps along some chain, which goes on: there is a next one
 module _ (rs : List Record) (i n : ℕ) {k : ℕ} {fp : Option ℕ} (ks : List ℕ) (h : slice_get rs i ≡ Some (Start k fp)) (e : chain rs i ≡ drop n ks) where
   pub is_on : {X : Type 0} (place : X → ℕ) (o : Option X) → n + 1 < length ks → option_map place o ≡ parent_of rs i → IsSome o
   is_on place (Some x) l p = refl
-  is_on place None l p = absurd (omega (arith, l, ap length (sym (last_start rs i h refl p).chained ∙ e), length-drop n ks))
+  is_on place None l p = absurd (let t : Top rs i = onward rs i h refl p in omega (arith, l, ap length (sym t.chained ∙ e), length-drop n ks))
 
   -- under another name of the records too
   pub along : {qs : List Record} {j : ℕ} → qs ≡ rs → Some j ≡ parent_of rs i → chain qs j ≡ drop (n + 1) ks
-  along {j = j} q p = ap (λ (rs : List Record). chain rs j) q ∙ ap (drop 1) (sym (next_start rs i h refl p).chained ∙ e) ∙ drop-drop 1 n ks
+  along {j = j} q p =
+      let next : Next rs i j = onward rs i h refl p in
+      ap (λ (ps : List Record). chain ps j) q ∙ ap (drop 1) (sym next.chained ∙ e) ∙ drop-drop 1 n ks
 
 -- ---- the code that enters a chain
 
-pub entered : (k : ℕ) (ks : List ℕ) → ks ≡ k ∷ [] → (k ≡ 0 → ⊥) → enter k ∷ [] ≡ enters ks
+entered : (k : ℕ) → (k ≡ 0 → ⊥) → enter k ∷ [] ≡ enters (k ∷ [])
 unfolding enters enter_unless_0
-entered zero ks e z = absurd (z refl)
-entered (suc k) ks e z = sym (ap enters e)
+entered zero z = absurd (z refl)
+entered (suc k) z = refl
 
-pub not_entered : (ks : List ℕ) {k : ℕ} → ks ≡ k ∷ [] → k ≡ 0 → [] ≡ enters ks
+not_entered : [] ≡ enters (0 ∷ [])
 unfolding enters enter_unless_0
-not_entered ks e z = sym (ap enters e ∙ ap (λ (n : ℕ). enters (n ∷ [])) z)
+not_entered = refl
+
+module _ (rs : List Record) (i : ℕ) {size : Item → ℕ} {k : ℕ} {fp : Option ℕ} (h : slice_get rs i ≡ Some (Start k fp)) where
+  pub first_entered : {s t : Heard} {r : Result (Unit {0}) Full} → (k ≡ 0 → ⊥) → Takes size (enter k) s t r → Tells size (enters (take 1 (chain rs i))) s t r
+  first_entered z put = tells_as (entered k z ∙ ap enters (sym (first_start rs i h))) (tells_one put)
+
+  pub first_abandoned : {s : Heard} → k ≡ 0 → Tells size (enters (take 1 (chain rs i))) s s (Ok tt)
+  first_abandoned z = tells_as (not_entered ∙ ap enters (sym (first_start rs i h ∙ ap (λ (n : ℕ). n ∷ []) z))) tells_none
 
 -- what lies further along is entered first
 enters_append : (ks js : List ℕ) → enters (ks ++ js) ≡ enters js ++ enters ks
@@ -156,5 +165,16 @@ unfolding enters
 enters_append [] js = sym (append-nil (enters js))
 enters_append (k ∷ ks) js = ap (λ (is : List Item). is ++ enter_unless_0 k) (enters_append ks js) ∙ append_assoc (enters js) (enters ks) (enter_unless_0 k)
 
-pub enters_halves : (ks : List ℕ) (m n : ℕ) → m ≤ n → enters (take (n - m) (drop m ks)) ++ enters (take m ks) ≡ enters (take n ks)
-enters_halves ks m n h = sym (enters_append (take m ks) (take (n - m) (drop m ks))) ∙ ap enters (sym (take-add m (n - m) ks) ∙ ap (λ (k : ℕ). take k ks) (omega arith))
+module _ (ks js : List ℕ) (m n : ℕ) (le : m ≤ n) (far_is : js ≡ drop m ks) where
+  halves : enters (take (n - m) js) ++ enters (take m ks) ≡ enters (take n ks)
+  halves =
+      sym (enters_append (take m ks) (take (n - m) js))
+      ∙ ap enters (ap (λ (is : List ℕ). take m ks ++ take (n - m) is) far_is ∙ sym (take-add m (n - m) ks) ∙ ap (λ (k : ℕ). take k ks) (omega arith))
+
+  pub both_halves : {size : Item → ℕ} {s t u : Heard} {a : Unit {0}} {r : Result (Unit {0}) Full}
+      → Tells size (enters (take (n - m) js)) s t (Ok a) → Tells size (enters (take m ks)) t u r → Tells size (enters (take n ks)) s u r
+  both_halves far near = tells_as halves (tells_then far near)
+
+  pub far_half : {size : Item → ℕ} {s t : Heard} {e : Full} {r : Result (Unit {0}) Full}
+      → Tells size (enters (take (n - m) js)) s t (Err e) → IsErrAnd r (λ f. f ≡ e) → Tells size (enters (take n ks)) s t r
+  far_half far exit = tells_as halves (tells_exit (enters (take m ks)) far _ exit)
