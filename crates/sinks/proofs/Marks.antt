@@ -1,5 +1,5 @@
 -- The marks of a walk: one for each record, and others that it leaves alone.
-use Rattle.std.proofs.Common.{◌≡◌, ℕ, zero, suc, ◌<◌, ◌≤◌, Bool, true, false, List, [], ◌∷◌, map, length, get_or, take, drop, set, replicate, sym, refl, ap, ◌∙◌, le_of_suc-le-suc, not-suc-le-zero, length-take-le, take_at, drop_at}
+use Rattle.std.proofs.Common.{◌≡◌, ℕ, zero, suc, ◌<◌, ◌≤◌, Bool, true, false, List, [], ◌∷◌, map, length, get_or, take, drop, set, replicate, sym, refl, ap, ◌∙◌, le_of_suc-le-suc, not-suc-le-zero, length-take, length-take-le, arith, take_at, drop_at}
 use lib.ListN.{length-map, length-replicate}
 use lib.Seq.{map-set}
 use Rattle.std.proofs.lemmas.List.{get_or-map, get_or-take}
@@ -32,6 +32,13 @@ none_used (suc n) = ap (λ (us : List Bool). false ∷ us) (none_used n)
 unused_is : (rs : List Record) → unused rs ≡ replicate (length rs) false
 unused_is [] = refl
 unused_is (r ∷ rs) = ap (λ (us : List Bool). false ∷ us) (unused_is rs)
+
+-- where each record has a mark that says so, there are enough of them
+pub enough : (rs : List Record) (l : List ℕ) → used (length rs) l ≡ unused rs → length rs ≤ length l
+enough rs l e =
+    let all : length (take (length rs) l) ≡ length rs =
+    sym (length-map (take (length rs) l) is_used) ∙ ap length (e ∙ unused_is rs) ∙ length-replicate (length rs) false in
+    omega (arith, all, length-take (length rs) l)
 
 pub used_none : (rs : List Record) (l : List ℕ) → used (length rs) (cleared (length rs) l) ≡ unused rs
 used_none rs l =

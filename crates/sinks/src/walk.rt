@@ -42,15 +42,14 @@ pub fn process<S: Sink>(records: &[Record], marks: &mut [u8], sink: &mut S) -> R
     told
 }
 
-/// Tells all records; no start is marked as used yet.
+/// Tells all records; each has a mark, and no start is marked as used yet.
 fn tell<S: Sink>(records: &[Record], marks: &mut [u8], sink: &mut S) -> Result<(), Refusal>
-    requires marked { length records.now ≤ length marks.old }
-    requires fresh { used (length records.now) marks.old ≡ unused records.now }
+    requires { used (length records.now) marks.old ≡ unused records.now }
     ensures told { TellsAll (amounts S.size) records.now (S.heard sink.old) (S.heard sink.new) result }
     ensures others { drop (length records.now) marks.new ≡ drop (length records.now) marks.old }
 {
     for (at, record) in records.iter().enumerate() {
-        tell_record(records, at, *record, marks, sink).map_err(|_| Refusal::sink_full(at))?;
+        tell_record(records, at, record, marks, sink).map_err(|_| Refusal::sink_full(at))?;
     }
     Ok(())
 }
@@ -59,15 +58,15 @@ fn tell<S: Sink>(records: &[Record], marks: &mut [u8], sink: &mut S) -> Result<(
 fn tell_record<S: Sink>(
     records: &[Record],
     at: usize,
-    record: Record,
+    record: &Record,
     marks: &mut [u8],
     sink: &mut S,
 ) -> Result<(), Full>
-    requires here { slice_get records.now at ≡ Some «record» }
+    requires here { slice_get records.now at ≡ Some «record».now }
     requires marked { length records.now ≤ length marks.old }
     ensures { TellsRecord (amounts S.size) records.now at marks.old marks.new (S.heard sink.old) (S.heard sink.new) result }
 {
-    match record {
+    match *record {
         Record::Start { .. } if marks[at] != 0 => Ok(()),
         Record::Start { kind, forward } => {
             let start = Start {

@@ -24,9 +24,9 @@ pub(super) struct Start<'a> {
 
 impl<'a> Start<'a> {
     /// The start that precedes this one, if there is one.
-    fn parent(&self) -> Option<Start<'a>>
-        ensures same_records { IfSome result (λ s. s.records.now ≡ self.now.records.now) }
-        ensures place { option_map (λ s. s.at) result ≡ parent_of self.now.records.now self.now.at }
+    fn parent(self) -> Option<Start<'a>>
+        ensures same_records { IfSome result (λ s. s.records.now ≡ self.entry.records.now) }
+        ensures place { option_map (λ s. s.at) result ≡ parent_of self.entry.records.now self.entry.at }
     {
         let by = self.forward?;
         let at = self.at + usize::from(by);
@@ -42,14 +42,14 @@ impl<'a> Start<'a> {
     }
 
     /// Marks the starts of the chain from here as used, but for this one, and answers how many starts it has.
-    pub(super) fn use_chain(&self, marks: &mut [u8]) -> usize
-        requires { length self.now.records.now ≤ length marks.old }
-        ensures starts { result ≡ length (chain self.now.records.now self.now.at) }
-        ensures marks_used { used (length self.now.records.now) marks.new ≡ mark_chain self.now.records.now self.now.at (used (length self.now.records.now) marks.old) }
-        ensures others { drop (length self.now.records.now) marks.new ≡ drop (length self.now.records.now) marks.old }
+    pub(super) fn use_chain(self, marks: &mut [u8]) -> usize
+        requires { length self.records.now ≤ length marks.old }
+        ensures starts { result ≡ length (chain self.entry.records.now self.entry.at) }
+        ensures marks_used { used (length self.entry.records.now) marks.new ≡ mark_chain self.entry.records.now self.entry.at (used (length self.entry.records.now) marks.old) }
+        ensures others { drop (length self.entry.records.now) marks.new ≡ drop (length self.entry.records.now) marks.old }
     {
         let mut starts = 1;
-        let mut last = *self;
+        let mut last = self;
         while let Some(next) = last.parent() {
             marks[next.at] = 1;
             last = next;
@@ -60,10 +60,10 @@ impl<'a> Start<'a> {
 
     /// Enters the first so many nodes of the chain from here, the last of them first. It goes by halves, so that a long chain needs neither
     /// memory nor a deep recursion.
-    pub(super) fn enter_chain<S: Sink>(&self, starts: usize, sink: &mut S) -> Result<(), Full>
+    pub(super) fn enter_chain<S: Sink>(self, starts: usize, sink: &mut S) -> Result<(), Full>
         requires some { 0 < starts }
-        requires chained { starts ≤ length (chain self.now.records.now self.now.at) }
-        ensures { Tells (amounts S.size) (enters (take starts (chain self.now.records.now self.now.at))) (S.heard sink.old) (S.heard sink.new) result }
+        requires chained { starts ≤ length (chain self.records.now self.at) }
+        ensures { Tells (amounts S.size) (enters (take starts (chain self.entry.records.now self.entry.at))) (S.heard sink.old) (S.heard sink.new) result }
     {
         if starts == 1 {
             return self.enter(sink);
@@ -74,11 +74,11 @@ impl<'a> Start<'a> {
     }
 
     /// The start that is so many steps along the chain from here.
-    fn ancestor(&self, steps: usize) -> Start<'a>
-        requires { steps < length (chain self.now.records.now self.now.at) }
-        ensures { chain result.records.now result.at ≡ drop steps (chain self.now.records.now self.now.at) }
+    fn ancestor(self, steps: usize) -> Start<'a>
+        requires { steps < length (chain self.records.now self.at) }
+        ensures { chain result.records.now result.at ≡ drop steps (chain self.entry.records.now self.entry.at) }
     {
-        let mut last = *self;
+        let mut last = self;
         for _ in 0..steps {
             last = last.parent().unwrap();
         }
@@ -86,8 +86,8 @@ impl<'a> Start<'a> {
     }
 
     /// Enters the node, unless it was abandoned.
-    fn enter<S: Sink>(&self, sink: &mut S) -> Result<(), Full>
-        ensures { Tells (amounts S.size) (enters (take 1 (chain self.now.records.now self.now.at))) (S.heard sink.old) (S.heard sink.new) result }
+    fn enter<S: Sink>(self, sink: &mut S) -> Result<(), Full>
+        ensures { Tells (amounts S.size) (enters (take 1 (chain self.entry.records.now self.entry.at))) (S.heard sink.old) (S.heard sink.new) result }
     {
         if self.kind == TOMBSTONE {
             return Ok(());

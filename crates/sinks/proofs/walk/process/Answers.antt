@@ -5,8 +5,8 @@ use Rattle.sinks.proofs.walk.process.Goals as goal
 pub returns-then-marks-count : goal.returns-then-marks-count
 returns-then-marks-count g c = too_few c.args.records.now c.args.marks.now c.if-marks-count.true c.marks_short.ensures
 
-pub tell-told-requires-clause-fresh : goal.tell-told-requires-clause-fresh
-tell-told-requires-clause-fresh g c = fresh c.args.records.now c.args.marks.now c.if-marks-count.false (c.fill.ensures.after (λ y e. e))
+pub tell-told-requires : goal.tell-told-requires
+tell-told-requires g c = fresh c.args.records.now c.args.marks.now c.if-marks-count.false (c.fill.ensures.after (λ y e. e))
 
 pub returns : goal.returns
 returns g c =

@@ -1,11 +1,15 @@
-use Rattle.std.proofs.Common.{ap, sym, ◌∙◌, rules}
+use Rattle.std.proofs.Common.{ap, sym, ◌∙◌, arith, rules}
 use Rattle.std.specs.Prelude.{is_ok}
 use Rattle.std.proofs.lemmas.Option.{slice_get-get_or}
 use Rattle.sinks.proofs.Groups.{so_far_none, so_far_ok, so_far_all, so_far_err}
+use Rattle.sinks.proofs.Marks.{enough}
 use Rattle.sinks.proofs.walk.tell.Goals as goal
 
 pub loop-at-init : goal.loop-at-init
-loop-at-init g c = so_far_none c.requires.fresh
+loop-at-init g c = so_far_none c.requires
+
+pub tell_record-requires-clause-marked : goal.tell_record-requires-clause-marked
+tell_record-requires-clause-marked g c = omega (arith, enough c.args.records.now c.args.marks.now c.requires, c.loop-at.auto.marks)
 
 pub tell_record-requires-clause-here : goal.tell_record-requires-clause-here
 tell_record-requires-clause-here g c = slice_get-get_or c.args.records.now c.loop-at.at-counter _ c.loop-at-test.true
