@@ -1,11 +1,10 @@
 -- Chains of forward parents: where they lead, and which starts they use.
 use Rattle.std.proofs.Common.{◌≡◌, ℕ, zero, suc, ◌+◌, ◌-◌, ◌<◌, ◌≤◌, Bool, true, false, cond, ◌⊎◌, List, [], ◌∷◌, ◌++◌, length, take, drop, set, Some, None, Ok, Err, Option, Result, IsErrAnd, sym, refl, ap, ◌∙◌, subst, inl, inr, append_assoc, append-nil, arith, length-drop, take-append-drop, get_or-drop, drop-cons, drop-drop, take-add}
 use native.Mathlib.Nat.{suc_inj}
-use Rattle.std.specs.Prelude.{slice_get, IsSome}
+use Rattle.std.specs.Prelude.{IsSome}
 use Rattle.std.specs.Option.{option_map}
 use Rattle.std.proofs.lemmas.List.{get_or_past}
 use Rattle.std.proofs.lemmas.Bool.{both_ways, cases_lt, lt-ltb}
-use Rattle.std.proofs.lemmas.Option.{get_or_from_slice_get}
 use Rattle.event_log.specs.declared.event.Record.{Record}
 use Rattle.event_log.specs.declared.event.Record.TheVariants.{Start, Finish, Token, Error}
 use Rattle.event_log.specs.declared.item.Item.{Item}
@@ -46,7 +45,7 @@ start_within rs i h = go (cases_lt i (length rs))
     go (inl lt) = lt
     go (inr le) = absurd (both_ways (is_start (at rs i)) (ap is_start (get_or_past rs i Finish le)) h)
 
-start_is : (r : Record) → is_start r ≡ true → r ≡ Start (kind_of r) (forward_of r)
+pub start_is : (r : Record) → is_start r ≡ true → r ≡ Start (kind_of r) (forward_of r)
 start_is (Start k fp) h = refl
 start_is Finish h = absurd (both_ways false refl h)
 start_is (Token k w) h = absurd (both_ways false refl h)
@@ -58,6 +57,9 @@ pub chain_is : (rs : List Record) (i : ℕ) → is_start (at rs i) ≡ true → 
 unfolding climb
 chain_is rs i h =
     ap (climb (Some 0)) (drop-cons rs i Finish (start_within rs i h) ∙ ap (λ (r : Record). r ∷ drop (suc i) rs) (start_is (at rs i) h))
+
+pub chain_some : (rs : List Record) (i : ℕ) → is_start (at rs i) ≡ true → 0 < length (chain rs i)
+chain_some rs i h = omega (arith, ap length (chain_is rs i h))
 
 -- ---- from one start of a chain on
 
@@ -77,22 +79,10 @@ abbrev pub Onward : List Record → ℕ → Option ℕ → Type 0
 Onward rs i None = Top rs i
 Onward rs i (Some j) = Next rs i j
 
--- records with a start at i
-module _ (rs : List Record) (i : ℕ) {k : ℕ} {fp : Option ℕ} (h : slice_get rs i ≡ Some (Start k fp)) where
-  pub start_at : at rs i ≡ Start k fp
-  start_at = get_or_from_slice_get rs i (Start k fp) Finish h
-
-  forward : forward_of (at rs i) ≡ fp
-  forward = ap forward_of start_at
-
+-- records with a start at i, whose forward parent is fp
+module _ (rs : List Record) (i : ℕ) (fp : Option ℕ) (h : is_start (at rs i) ≡ true) (forward : forward_of (at rs i) ≡ fp) where
   chain_on : chain rs i ≡ kind_of (at rs i) ∷ kinds_from rs fp i
-  chain_on = chain_is rs i (ap is_start start_at) ∙ ap (λ (f : Option ℕ). kind_of (at rs i) ∷ kinds_from rs f i) forward
-
-  pub chain_some : 0 < length (chain rs i)
-  chain_some = omega (arith, ap length chain_on)
-
-  first_start : take 1 (chain rs i) ≡ k ∷ []
-  first_start = ap (take 1) chain_on ∙ ap (λ (r : Record). kind_of r ∷ []) start_at
+  chain_on = chain_is rs i h ∙ ap (λ (f : Option ℕ). kind_of (at rs i) ∷ kinds_from rs f i) forward
 
   top : kinds_from rs fp i ≡ [] → ((us : List Bool) → length us ≡ length rs → marked_from rs fp i us ≡ us) → Top rs i
   top c m = record {
@@ -100,11 +90,11 @@ module _ (rs : List Record) (i : ℕ) {k : ℕ} {fp : Option ℕ} (h : slice_get
     marked = λ us l. ap (λ (f : Option ℕ). marked_from rs f i us) forward ∙ m us l;
   }
 
-onward_by : (rs : List Record) (i k : ℕ) (fp : Option ℕ) → slice_get rs i ≡ Some (Start k fp) → Onward rs i (ahead rs i fp)
+onward_by : (rs : List Record) (i : ℕ) (fp : Option ℕ) → is_start (at rs i) ≡ true → forward_of (at rs i) ≡ fp → Onward rs i (ahead rs i fp)
 unfolding climb use_up
-onward_by rs i k None h = top rs i h (kinds_end rs i) (λ us l. marks_end rs i us)
-onward_by rs i k (Some zero) h = top rs i h refl (λ us l. take-append-drop (suc i) us)
-onward_by rs i k (Some (suc n)) h = rw (lt-ltb 0 (suc n) (omega arith)) (go (is_start (at rs (i + suc n))) refl)
+onward_by rs i None h f = top rs i None h f (kinds_end rs i) (λ us l. marks_end rs i us)
+onward_by rs i (Some zero) h f = top rs i (Some zero) h f refl (λ us l. take-append-drop (suc i) us)
+onward_by rs i (Some (suc n)) h f = rw (lt-ltb 0 (suc n) (omega arith)) (go (is_start (at rs (i + suc n))) refl)
   where
     there : at (drop (suc i) rs) n ≡ at rs (i + suc n)
     there = get_or-drop (suc i) rs n Finish ∙ ap (at rs) (omega arith)
@@ -117,20 +107,20 @@ onward_by rs i k (Some (suc n)) h = rw (lt-ltb 0 (suc n) (omega arith)) (go (is_
         record {
           further = omega arith;
           within = w;
-          chained = chain_on rs i h ∙ ap (λ (ks : List ℕ). kind_of (at rs i) ∷ ks) (kinds_step rs i n j (kind_of (at rs j)) (forward_of (at rs j)) Finish refl w s ∙ sym (chain_is rs j e));
-          marked = λ us l. ap (λ (f : Option ℕ). marked_from rs f i us) (forward rs i h) ∙ marks_step rs i n j (kind_of (at rs j)) (forward_of (at rs j)) Finish refl w s us l;
+          chained = chain_on rs i (Some (suc n)) h f ∙ ap (λ (ks : List ℕ). kind_of (at rs i) ∷ ks) (kinds_step rs i n j (kind_of (at rs j)) (forward_of (at rs j)) Finish refl w s ∙ sym (chain_is rs j e));
+          marked = λ us l. ap (λ (o : Option ℕ). marked_from rs o i us) f ∙ marks_step rs i n j (kind_of (at rs j)) (forward_of (at rs j)) Finish refl w s us l;
         }
-    go false e = top rs i h (climb_none (drop (suc i) rs) n (ap is_start there ∙ e))
+    go false e = top rs i (Some (suc n)) h f (climb_none (drop (suc i) rs) n (ap is_start there ∙ e))
         (λ us l. ap (λ (vs : List Bool). take (suc i) us ++ vs) (use_up_none (drop (suc i) rs) n (drop (suc i) us) (length-drop (suc i) us ∙ ap (λ (m : ℕ). m - suc i) l ∙ sym (length-drop (suc i) rs)) (ap is_start there ∙ e)) ∙ take-append-drop (suc i) us)
 
 -- under another name of the records too
-pub onward : (rs : List Record) (i : ℕ) {k : ℕ} {fp o : Option ℕ} {qs : List Record} → slice_get rs i ≡ Some (Start k fp) → rs ≡ qs → o ≡ parent_of rs i → Onward qs i o
-onward rs i {k} {fp} {o} h e p =
-    let here : Onward rs i o = subst (Onward rs i) (sym (p ∙ ap (ahead rs i) (forward rs i h))) (onward_by rs i k fp h) in
+pub onward : (rs : List Record) (i : ℕ) {o : Option ℕ} {qs : List Record} → is_start (at rs i) ≡ true → rs ≡ qs → o ≡ parent_of rs i → Onward qs i o
+onward rs i {o} h e p =
+    let here : Onward rs i o = subst (Onward rs i) (sym p) (onward_by rs i (forward_of (at rs i)) h refl) in
     rw e at here
 
 -- at a start that is n steps along some chain, which goes on: there is a next one
-module _ (rs : List Record) (i n : ℕ) {k : ℕ} {fp : Option ℕ} (ks : List ℕ) (h : slice_get rs i ≡ Some (Start k fp)) (e : chain rs i ≡ drop n ks) where
+module _ (rs : List Record) (i n : ℕ) (ks : List ℕ) (h : is_start (at rs i) ≡ true) (e : chain rs i ≡ drop n ks) where
   pub is_on : {X : Type 0} (place : X → ℕ) (o : Option X) → n + 1 < length ks → option_map place o ≡ parent_of rs i → IsSome o
   is_on place (Some x) l p = refl
   is_on place None l p = absurd (let t : Top rs i = onward rs i h refl p in omega (arith, l, ap length (sym t.chained ∙ e), length-drop n ks))
@@ -152,12 +142,15 @@ not_entered : [] ≡ enters (0 ∷ [])
 unfolding enters enter_unless_0
 not_entered = refl
 
-module _ (rs : List Record) (i : ℕ) {size : Item → ℕ} {k : ℕ} {fp : Option ℕ} (h : slice_get rs i ≡ Some (Start k fp)) where
-  pub first_entered : {s t : Heard} {r : Result (Unit {0}) Full} → (k ≡ 0 → ⊥) → Takes size (enter k) s t r → Tells size (enters (take 1 (chain rs i))) s t r
-  first_entered z put = tells_as (entered k z ∙ ap enters (sym (first_start rs i h))) (tells_one put)
+module _ (rs : List Record) (i : ℕ) {k : ℕ} {fp : Option ℕ} (e : at rs i ≡ Start k fp) where
+  first_start : take 1 (chain rs i) ≡ k ∷ []
+  first_start = ap (take 1) (chain_is rs i (ap is_start e)) ∙ ap (λ (r : Record). kind_of r ∷ []) e
 
-  pub first_abandoned : {s : Heard} → k ≡ 0 → Tells size (enters (take 1 (chain rs i))) s s (Ok tt)
-  first_abandoned z = tells_as (not_entered ∙ ap enters (sym (first_start rs i h ∙ ap (λ (n : ℕ). n ∷ []) z))) tells_none
+  pub first_entered : {size : Item → ℕ} {s t : Heard} {r : Result (Unit {0}) Full} → (k ≡ 0 → ⊥) → Takes size (enter k) s t r → Tells size (enters (take 1 (chain rs i))) s t r
+  first_entered z put = tells_as (entered k z ∙ ap enters (sym first_start)) (tells_one put)
+
+  pub first_abandoned : {size : Item → ℕ} {s : Heard} → k ≡ 0 → Tells size (enters (take 1 (chain rs i))) s s (Ok tt)
+  first_abandoned z = tells_as (not_entered ∙ ap enters (sym (first_start ∙ ap (λ (n : ℕ). n ∷ []) z))) tells_none
 
 -- what lies further along is entered first
 enters_append : (ks js : List ℕ) → enters (ks ++ js) ≡ enters js ++ enters ks

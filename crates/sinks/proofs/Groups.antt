@@ -2,11 +2,11 @@
 use Rattle.std.proofs.Common.{◌≡◌, ℕ, suc, ◌+◌, ◌-◌, ◌<◌, ◌≤◌, Bool, false, List, [], ◌∷◌, ◌++◌, length, get_or, take, drop, Some, Ok, Err, Option, Result, sym, refl, ap, ◌∙◌, append_assoc, append-nil, add-one, arith, length-append}
 use lib.Seq.{append_snoc}
 use Rattle.std.specs.Prelude.{slice_get, not, is_ok, true, MatchResult, IsErrAnd}
-use Rattle.std.proofs.lemmas.Option.{slice_get_within}
+use Rattle.std.proofs.lemmas.Option.{slice_get_within, get_or_from_slice_get}
 use Rattle.std.proofs.lemmas.List.{take_all}
 use Rattle.std.proofs.lemmas.Bool.{lt-ltb, le-ltb, eq-eqb, ne_eqb, both_ways}
 use Rattle.event_log.specs.declared.event.Record.{Record}
-use Rattle.event_log.specs.declared.event.Record.TheVariants.{Start}
+use Rattle.event_log.specs.declared.event.Record.TheVariants.{Start, Finish}
 use Rattle.event_log.specs.declared.item.Item.{Item}
 use Rattle.refusals.specs.declared.Refusal.{Refusal}
 use Rattle.refusals.specs.Refusals.{sink_full}
@@ -17,11 +17,14 @@ use Rattle.sinks.specs.Sink.Tells.{told, full}
 use Rattle.sinks.specs.Walk.{is_used, used, forward_of, kind_of, is_start, at, chain, mark_chain, each_from, each, TellsRecord, TellsAll}
 use Rattle.sinks.specs.Walk.TellsAll.{all, part}
 use Rattle.sinks.proofs.ByIndex.{kinds_from, marked_from, alone, each_alone, each_used, each_start, each_none}
-use Rattle.sinks.proofs.Chains.{start_at, chain_is}
+use Rattle.sinks.proofs.Chains.{chain_is}
 use Rattle.sinks.proofs.Marks.{length_used, used_at}
 use Rattle.sinks.proofs.Taking.{tells_none, tells_one, tells_then, tells_stop, tells_as}
 
 -- ---- one record
+
+pub record_at : (rs : List Record) (i : ℕ) {r : Record} → slice_get rs i ≡ Some r → at rs i ≡ r
+record_at rs i {r} h = get_or_from_slice_get rs i r Finish h
 
 module _ (rs : List Record) (ms : List ℕ) (i : ℕ) (marked : length rs ≤ length ms) where
   abbrev us : List Bool
@@ -50,7 +53,7 @@ module _ (rs : List Record) (ms : List ℕ) (i : ℕ) (marked : length rs ≤ le
   chain_told {k = k} {n} {fp} {ns} h m c marks others tells = record { told = enters (take n (chain rs i)); by_rule = rule; tells = tells; others = others }
     where
       here : at rs i ≡ Start k fp
-      here = start_at rs i h
+      here = record_at rs i h
 
       whole : k ∷ kinds_from rs fp i ≡ take n (chain rs i)
       whole =

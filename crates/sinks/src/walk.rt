@@ -14,7 +14,6 @@ use refusals::Refusal;
 use start::Start;
 
 mod start;
-
 #[cfg(test)]
 mod tests;
 
@@ -68,13 +67,8 @@ fn tell_record<S: Sink>(
 {
     match *record {
         Record::Start { .. } if marks[at] != 0 => Ok(()),
-        Record::Start { kind, forward } => {
-            let start = Start {
-                records,
-                at,
-                kind,
-                forward,
-            };
+        Record::Start { .. } => {
+            let start = Start { records, at };
             let starts = start.use_chain(marks);
             start.enter_chain(starts, sink)
         }

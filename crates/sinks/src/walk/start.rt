@@ -1,11 +1,10 @@
 //! The starts of a log. A start's `forward` leads to the start that precedes it, and so on along a chain.
 
-ghost use Rattle.std.specs.Prelude.{◌≡◌, ◌<◌, ◌≤◌, length, take, drop, slice_get, Some, IfSome};
+ghost use Rattle.std.specs.Prelude.{◌≡◌, ◌<◌, ◌≤◌, true, length, take, drop, IfSome};
 ghost use Rattle.std.specs.Option.{option_map};
-ghost use Rattle.event_log.specs.declared.event.Record.TheVariants.{Start as start};
 ghost use Rattle.event_log.specs.Tell.{enters};
 ghost use Rattle.sinks.specs.Sink.{amounts, Tells};
-ghost use Rattle.sinks.specs.Walk.{used, parent_of, chain, mark_chain};
+ghost use Rattle.sinks.specs.Walk.{used, is_start, at as record_at, parent_of, chain, mark_chain};
 
 use crate::sink::{Full, Sink};
 use event_log::event::Record;
@@ -17,39 +16,47 @@ use tokens::syntax_kind::TOMBSTONE;
 pub(super) struct Start<'a> {
     pub(super) records: &'a [Record],
     pub(super) at: usize,
-    pub(super) kind: u16,
-    pub(super) forward: Option<u16>,
-    ghost here: { slice_get records.now at ≡ Some (start kind forward) },
+    ghost here: { is_start (record_at records.now at) ≡ true },
 }
 
 impl<'a> Start<'a> {
-    /// The start that precedes this one, if there is one.
-    fn parent(self) -> Option<Start<'a>>
-        ensures same_records { IfSome result (λ s. s.records.now ≡ self.entry.records.now) }
-        ensures place { option_map (λ s. s.at) result ≡ parent_of self.entry.records.now self.entry.at }
+    fn record(&self) -> Record
+        ensures { result ≡ record_at self.now.records.now self.now.at }
     {
-        let by = self.forward?;
+        self.records[self.at]
+    }
+
+    /// The start that precedes this one, if there is one.
+    fn parent(&self) -> Option<Start<'a>>
+        ensures same_records { IfSome result (λ s. s.records.now ≡ self.now.records.now) }
+        ensures place { option_map (λ s. s.at) result ≡ parent_of self.now.records.now self.now.at }
+    {
+        let Record::Start {
+            forward: Some(by),
+            ..
+        } = self.record()
+        else {
+            return None;
+        };
         let at = self.at + usize::from(by);
         match self.records.get(at) {
-            Some(&Record::Start { kind, forward }) if by > 0 => Some(Start {
+            Some(Record::Start { .. }) if by > 0 => Some(Start {
                 records: self.records,
                 at,
-                kind,
-                forward,
             }),
             _ => None,
         }
     }
 
     /// Marks the starts of the chain from here as used, but for this one, and answers how many starts it has.
-    pub(super) fn use_chain(self, marks: &mut [u8]) -> usize
-        requires { length self.records.now ≤ length marks.old }
-        ensures starts { result ≡ length (chain self.entry.records.now self.entry.at) }
-        ensures marks_used { used (length self.entry.records.now) marks.new ≡ mark_chain self.entry.records.now self.entry.at (used (length self.entry.records.now) marks.old) }
-        ensures others { drop (length self.entry.records.now) marks.new ≡ drop (length self.entry.records.now) marks.old }
+    pub(super) fn use_chain(&self, marks: &mut [u8]) -> usize
+        requires { length self.now.records.now ≤ length marks.old }
+        ensures starts { result ≡ length (chain self.now.records.now self.now.at) }
+        ensures marks_used { used (length self.now.records.now) marks.new ≡ mark_chain self.now.records.now self.now.at (used (length self.now.records.now) marks.old) }
+        ensures others { drop (length self.now.records.now) marks.new ≡ drop (length self.now.records.now) marks.old }
     {
         let mut starts = 1;
-        let mut last = self;
+        let mut last = *self;
         while let Some(next) = last.parent() {
             marks[next.at] = 1;
             last = next;
@@ -60,10 +67,10 @@ impl<'a> Start<'a> {
 
     /// Enters the first so many nodes of the chain from here, the last of them first. It goes by halves, so that a long chain needs neither
     /// memory nor a deep recursion.
-    pub(super) fn enter_chain<S: Sink>(self, starts: usize, sink: &mut S) -> Result<(), Full>
+    pub(super) fn enter_chain<S: Sink>(&self, starts: usize, sink: &mut S) -> Result<(), Full>
         requires some { 0 < starts }
-        requires chained { starts ≤ length (chain self.records.now self.at) }
-        ensures { Tells (amounts S.size) (enters (take starts (chain self.entry.records.now self.entry.at))) (S.heard sink.old) (S.heard sink.new) result }
+        requires chained { starts ≤ length (chain self.now.records.now self.now.at) }
+        ensures { Tells (amounts S.size) (enters (take starts (chain self.now.records.now self.now.at))) (S.heard sink.old) (S.heard sink.new) result }
     {
         if starts == 1 {
             return self.enter(sink);
@@ -74,11 +81,11 @@ impl<'a> Start<'a> {
     }
 
     /// The start that is so many steps along the chain from here.
-    fn ancestor(self, steps: usize) -> Start<'a>
-        requires { steps < length (chain self.records.now self.at) }
-        ensures { chain result.records.now result.at ≡ drop steps (chain self.entry.records.now self.entry.at) }
+    fn ancestor(&self, steps: usize) -> Start<'a>
+        requires { steps < length (chain self.now.records.now self.now.at) }
+        ensures { chain result.records.now result.at ≡ drop steps (chain self.now.records.now self.now.at) }
     {
-        let mut last = self;
+        let mut last = *self;
         for _ in 0..steps {
             last = last.parent().unwrap();
         }
@@ -86,12 +93,12 @@ impl<'a> Start<'a> {
     }
 
     /// Enters the node, unless it was abandoned.
-    fn enter<S: Sink>(self, sink: &mut S) -> Result<(), Full>
-        ensures { Tells (amounts S.size) (enters (take 1 (chain self.entry.records.now self.entry.at))) (S.heard sink.old) (S.heard sink.new) result }
+    fn enter<S: Sink>(&self, sink: &mut S) -> Result<(), Full>
+        ensures { Tells (amounts S.size) (enters (take 1 (chain self.now.records.now self.now.at))) (S.heard sink.old) (S.heard sink.new) result }
     {
-        if self.kind == TOMBSTONE {
-            return Ok(());
+        match self.record() {
+            Record::Start { kind, .. } if kind != TOMBSTONE => sink.put(Item::Enter { kind }),
+            _ => Ok(()),
         }
-        sink.put(Item::Enter { kind: self.kind })
     }
 }

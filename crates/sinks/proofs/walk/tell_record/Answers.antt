@@ -1,11 +1,12 @@
 use Rattle.std.proofs.Common.{Some, refl, ap, ◌∙◌, arith}
+use Rattle.sinks.specs.Walk.{is_start}
 use Rattle.sinks.proofs.Chains.{chain_some}
-use Rattle.sinks.proofs.Groups.{alone_told, used_told, chain_told}
+use Rattle.sinks.proofs.Groups.{record_at, alone_told, used_told, chain_told}
 use Rattle.sinks.proofs.walk.tell_record.Goals as goal
 
 pub enter_chain-requires-clause-some : goal.enter_chain-requires-clause-some
 enter_chain-requires-clause-some g c =
-    omega (arith, c.use_chain-starts.ensures.starts, chain_some c.args.records.now c.args.at (c.requires.here ∙ ap Some c.in-Start-2.is))
+    omega (arith, c.use_chain-starts.ensures.starts, chain_some c.args.records.now c.args.at (ap is_start (record_at c.args.records.now c.args.at (c.requires.here ∙ ap Some c.in-Start-2.is))))
 
 pub returns-in-Start : goal.returns-in-Start
 returns-in-Start g c = used_told _ _ _ c.requires.marked (c.requires.here ∙ ap Some c.in-Start.is) c.if-marks-at-ne0.true

@@ -1,8 +1,13 @@
+use Rattle.std.proofs.Common.{sym, ◌∙◌}
 use Rattle.sinks.proofs.Chains.{first_entered, first_abandoned}
 use Rattle.sinks.proofs.walk.start.Start.enter.Goals as goal
 
-pub returns-then-self-eq-TOMBSTONE : goal.returns-then-self-eq-TOMBSTONE
-returns-then-self-eq-TOMBSTONE g c = let s = c.args.self in first_abandoned s.records.now s.at s.here c.if-self-eq-TOMBSTONE.true
+pub returns-in-Start : goal.returns-in-Start
+returns-in-Start g c =
+    let s = c.args.self.now in
+    first_entered s.records.now s.at (sym c.record.ensures ∙ c.in-Start.is) c.if-kind-ne-TOMBSTONE.true c.put.ensures
 
-pub returns : goal.returns
-returns g c = let s = c.args.self in first_entered s.records.now s.at s.here c.if-self-eq-TOMBSTONE.false c.put.ensures
+pub returns-in_default : goal.returns-in_default
+returns-in_default g c =
+    let s = c.args.self.now in
+    first_abandoned s.records.now s.at (sym c.record.ensures ∙ c.in-Start.is) c.if-kind-ne-TOMBSTONE.false
