@@ -98,7 +98,7 @@ pub so_far_none : {size : Item → ℕ} {rs : List Record} {marks : List ℕ} {s
 unfolding joined
 so_far_none {rs = rs} e = record { before = []; rest = ap (tell_each rs) (sym e); reached = refl; told = tells_none; others = refl }
 
-pub so_far_more : {size : Item → ℕ} {rs : List Record} {i : ℕ} {marks ms ns : List ℕ} {s t u : Heard} {x : Unit {0}}
+so_far_more : {size : Item → ℕ} {rs : List Record} {i : ℕ} {marks ms ns : List ℕ} {s t u : Heard} {x : Unit {0}}
     → SoFar size rs i marks ms s t → TellsRecord size rs i ms ns t u (Ok x) → SoFar size rs (i + 1) marks ns s u
 so_far_more {rs = rs} {i} {ns = ns} h r = record {
   before = h.before ++ r.told ∷ [];
@@ -127,7 +127,7 @@ not_all : {size : Item → ℕ} {xs : List Item} {s t : Heard} {e : Full} → Te
 not_all (full l i n) = l
 
 -- A record that cannot be told whole.
-pub so_far_stop : {size : Item → ℕ} {rs : List Record} {i : ℕ} {marks ms ns : List ℕ} {s t u : Heard} {e : Full} {f : Refusal}
+so_far_stop : {size : Item → ℕ} {rs : List Record} {i : ℕ} {marks ms ns : List ℕ} {s t u : Heard} {e : Full} {f : Refusal}
     → SoFar size rs i marks ms s t → TellsRecord size rs i ms ns t u (Err e) → f ≡ sink_full i → TellsAll size rs s u (Err f)
 unfolding tell_from joined
 so_far_stop {size} {rs} {i} {marks} {ms} {ns} {s} {t} {u} {e} h r p = part e whole (p ∙ ap sink_full (sym place))

@@ -20,6 +20,7 @@ pub(super) struct Start<'a> {
 }
 
 impl<'a> Start<'a> {
+    /// The record that it is.
     fn record(&self) -> Record
         ensures { result ≡ record_at self.now.records.now self.now.at }
     {
