@@ -2,9 +2,12 @@
 -- a chain of forward parents.
 use Rattle.std.proofs.Common.{◌≡◌, ℕ, zero, suc, ◌+◌, ◌<◌, ◌≤◌, Bool, true, false, List, [], ◌∷◌, ◌++◌, length, get_or, take, drop, set, Some, None, Option, sym, refl, ap, ◌∙◌, ap₂, append_assoc, le_of_suc-le-suc, not-suc-le-zero, arith, length-drop, take-append-drop, drop_of_length-le, length-take-le, get_or-drop, drop-cons, drop-drop, take-suc-set, drop-set-lt, take-add, drop_at}
 use native.Mathlib.Nat.{suc_inj}
+use Rattle.std.specs.Prelude.{slice_get}
+use Rattle.std.proofs.lemmas.Option.{none-some, same_Some, slice_get_within, get_or_from_slice_get}
 use lib.Seq.{append_snoc}
 use Rattle.event_log.specs.declared.event.Record.{Record}
 use Rattle.event_log.specs.declared.event.Record.TheVariants.{Start, Finish, Token, Error}
+use Rattle.event_log.specs.declared.item.Item.{Item}
 use Rattle.event_log.specs.declared.item.Item.TheVariants.{Leave as leave, Token as told_token, Error as told_error}
 use Rattle.sinks.specs.Walk.{each_from}
 use Rattle.event_log.specs.Tell.{nearer, climb, use_up, enters, tell_each}
@@ -19,34 +22,38 @@ kinds_from rs fp i = climb (nearer fp) (drop (suc i) rs)
 
 -- ---- the record at index i
 
-module _ (rs : List Record) (us : List Bool) (i : ℕ) (d : Record) (h : i < length rs) (l : length us ≡ length rs) where
-  opened : (r : Record) → get_or rs i d ≡ r → each_from rs us i ≡ tell_each (r ∷ drop (suc i) rs) (get_or us i false ∷ drop (suc i) us)
-  opened r e =
-      ap₂ tell_each (drop-cons rs i d h ∙ ap (λ x. x ∷ drop (suc i) rs) e) (drop-cons us i false (omega arith))
+-- the item that this record tells, whatever comes before it, where it is no start
+abbrev pub alone : Record → Option Item
+alone (Start k fp) = None
+alone Finish = Some leave
+alone (Token k w) = Some (told_token k w)
+alone (Error n k) = Some (told_error n k)
 
-  pub each_finish : get_or rs i d ≡ Finish → each_from rs us i ≡ (leave ∷ []) ∷ each_from rs us (suc i)
+module _ (rs : List Record) (us : List Bool) (i : ℕ) (l : length us ≡ length rs) where
+  opened : (r : Record) → slice_get rs i ≡ Some r → each_from rs us i ≡ tell_each (r ∷ drop (suc i) rs) (get_or us i false ∷ drop (suc i) us)
+  opened r h =
+      let lt : i < length rs = slice_get_within rs i r h in
+      ap₂ tell_each (drop-cons rs i r lt ∙ ap (λ x. x ∷ drop (suc i) rs) (get_or_from_slice_get rs i r r h)) (drop-cons us i false (omega arith))
+
+  pub each_alone : (r : Record) (x : Item) → slice_get rs i ≡ Some r → alone r ≡ Some x → each_from rs us i ≡ (x ∷ []) ∷ each_from rs us (suc i)
   unfolding tell_each
-  each_finish e = opened Finish e
+  each_alone (Start k fp) x h e = absurd (none-some x e)
+  each_alone Finish x h e = opened Finish h ∙ ap (λ y. (y ∷ []) ∷ each_from rs us (suc i)) (same_Some leave x e)
+  each_alone (Token k w) x h e = opened (Token k w) h ∙ ap (λ y. (y ∷ []) ∷ each_from rs us (suc i)) (same_Some (told_token k w) x e)
+  each_alone (Error n k) x h e = opened (Error n k) h ∙ ap (λ y. (y ∷ []) ∷ each_from rs us (suc i)) (same_Some (told_error n k) x e)
 
-  pub each_token : (k w : ℕ) → get_or rs i d ≡ Token k w → each_from rs us i ≡ (told_token k w ∷ []) ∷ each_from rs us (suc i)
+  pub each_used : (k : ℕ) (fp : Option ℕ) → slice_get rs i ≡ Some (Start k fp) → get_or us i false ≡ true → each_from rs us i ≡ [] ∷ each_from rs us (suc i)
   unfolding tell_each
-  each_token k w e = opened (Token k w) e
+  each_used k fp h u = opened (Start k fp) h ∙ ap (λ v. tell_each (Start k fp ∷ drop (suc i) rs) (v ∷ drop (suc i) us)) u
 
-  pub each_error : (n k : ℕ) → get_or rs i d ≡ Error n k → each_from rs us i ≡ (told_error n k ∷ []) ∷ each_from rs us (suc i)
-  unfolding tell_each
-  each_error n k e = opened (Error n k) e
-
-  pub each_used : (k : ℕ) (fp : Option ℕ) → get_or rs i d ≡ Start k fp → get_or us i false ≡ true → each_from rs us i ≡ [] ∷ each_from rs us (suc i)
-  unfolding tell_each
-  each_used k fp e u = opened (Start k fp) e ∙ ap (λ v. tell_each (Start k fp ∷ drop (suc i) rs) (v ∷ drop (suc i) us)) u
-
-  pub each_start : (k : ℕ) (fp : Option ℕ) → get_or rs i d ≡ Start k fp → get_or us i false ≡ false
+  pub each_start : (k : ℕ) (fp : Option ℕ) → slice_get rs i ≡ Some (Start k fp) → get_or us i false ≡ false
       → each_from rs us i ≡ enters (k ∷ kinds_from rs fp i) ∷ each_from rs (marked_from rs fp i us) (suc i)
   unfolding tell_each
-  each_start k fp e u =
+  each_start k fp h u =
+      let lt : i < length rs = slice_get_within rs i (Start k fp) h in
       let vs : List Bool = use_up (nearer fp) (drop (suc i) rs) (drop (suc i) us) in
       let n : length (take (suc i) us) ≡ suc i = length-take-le (suc i) us (omega arith) in
-      opened (Start k fp) e ∙ ap (λ v. tell_each (Start k fp ∷ drop (suc i) rs) (v ∷ drop (suc i) us)) u
+      opened (Start k fp) h ∙ ap (λ v. tell_each (Start k fp ∷ drop (suc i) rs) (v ∷ drop (suc i) us)) u
       ∙ ap (λ ws. enters (k ∷ kinds_from rs fp i) ∷ tell_each (drop (suc i) rs) ws) (sym (drop_at (take (suc i) us) vs (suc i) n))
 
 -- at the end nothing is left

@@ -1,14 +1,19 @@
 -- Chains of forward parents: where they lead, and which starts they use.
-use Rattle.std.proofs.Common.{◌≡◌, ℕ, zero, suc, ◌+◌, ◌-◌, ◌<◌, ◌≤◌, Bool, true, false, cond, ◌&&◌, ltb, ◌⊎◌, List, [], ◌∷◌, ◌++◌, length, get_or, take, drop, set, Some, None, Option, sym, refl, ap, ◌∙◌, inl, inr, append_assoc, append-nil, arith, length-drop, take-append-drop, get_or-drop, drop-cons, drop-drop, take-add}
+use Rattle.std.proofs.Common.{◌≡◌, ℕ, zero, suc, ◌+◌, ◌-◌, ◌<◌, ◌≤◌, Bool, true, false, cond, ◌⊎◌, List, [], ◌∷◌, ◌++◌, length, take, drop, set, Some, None, Ok, Err, Option, Result, IsErrAnd, sym, refl, ap, ◌∙◌, subst, inl, inr, append_assoc, append-nil, arith, length-drop, take-append-drop, get_or-drop, drop-cons, drop-drop, take-add}
 use native.Mathlib.Nat.{suc_inj}
-use Rattle.std.proofs.lemmas.List.{get_or_default, get_or_past}
-use Rattle.std.proofs.lemmas.Bool.{both_ways, cases_lt, lt-ltb, and_right, and_from}
+use Rattle.std.specs.Prelude.{IsSome}
+use Rattle.std.specs.Option.{option_map}
+use Rattle.std.proofs.lemmas.List.{get_or_past}
+use Rattle.std.proofs.lemmas.Bool.{both_ways, cases_lt, lt-ltb}
 use Rattle.event_log.specs.declared.event.Record.{Record}
 use Rattle.event_log.specs.declared.event.Record.TheVariants.{Start, Finish, Token, Error}
 use Rattle.event_log.specs.declared.item.Item.{Item}
 use Rattle.event_log.specs.declared.item.Item.TheVariants.{Enter as enter}
 use Rattle.event_log.specs.Tell.{climb, use_up, enters, enter_unless_0}
 use Rattle.sinks.specs.Walk.{forward_of, is_start, kind_of, at, ahead, parent_of, chain, mark_chain}
+use Rattle.sinks.specs.declared.sink.Full.{Full}
+use Rattle.sinks.specs.Sink.{Heard, Takes, Tells}
+use Rattle.sinks.proofs.Taking.{tells_none, tells_one, tells_then, tells_exit, tells_as}
 use Rattle.sinks.proofs.ByIndex.{marked_from, kinds_from, kinds_step, marks_step, kinds_end, marks_end}
 
 -- ---- where no start is
@@ -33,14 +38,14 @@ use_up_none (r ∷ rs) (suc n) [] l h = absurd (omega arith)
 use_up_none (r ∷ rs) (suc n) (u ∷ us) l h = ap (λ (vs : List Bool). u ∷ vs) (use_up_none rs n us (suc_inj l) h)
 
 -- a start lies inside
-pub start_within : (rs : List Record) (i : ℕ) → is_start (at rs i) ≡ true → i < length rs
+start_within : (rs : List Record) (i : ℕ) → is_start (at rs i) ≡ true → i < length rs
 start_within rs i h = go (cases_lt i (length rs))
   where
     go : (i < length rs) ⊎ (length rs ≤ i) → i < length rs
     go (inl lt) = lt
     go (inr le) = absurd (both_ways (is_start (at rs i)) (ap is_start (get_or_past rs i Finish le)) h)
 
-start_is : (r : Record) → is_start r ≡ true → r ≡ Start (kind_of r) (forward_of r)
+pub start_is : (r : Record) → is_start r ≡ true → r ≡ Start (kind_of r) (forward_of r)
 start_is (Start k fp) h = refl
 start_is Finish h = absurd (both_ways false refl h)
 start_is (Token k w) h = absurd (both_ways false refl h)
@@ -53,145 +58,99 @@ unfolding climb
 chain_is rs i h =
     ap (climb (Some 0)) (drop-cons rs i Finish (start_within rs i h) ∙ ap (λ (r : Record). r ∷ drop (suc i) rs) (start_is (at rs i) h))
 
--- a chain that has starts begins at one
-pub chain_starts : (rs : List Record) (i : ℕ) → i < length rs → 0 < length (chain rs i) → is_start (at rs i) ≡ true
-chain_starts rs i lt h = go (is_start (at rs i)) refl
-  where
-    none : is_start (at rs i) ≡ false → chain rs i ≡ []
-    none e = climb_none (drop i rs) 0 (ap is_start (get_or-drop i rs 0 Finish ∙ ap (at rs) (omega arith)) ∙ e)
+pub chain_some : (rs : List Record) (i : ℕ) → is_start (at rs i) ≡ true → 0 < length (chain rs i)
+chain_some rs i h = omega (arith, ap length (chain_is rs i h))
 
-    go : (b : Bool) → is_start (at rs i) ≡ b → is_start (at rs i) ≡ true
-    go true e = e
-    go false e = absurd (let z = ap length (none e) in omega arith)
+-- ---- from one start of a chain on
 
--- Where a forward offset leads to: to the end of the chain, or to the next start.
-pub data Onward (rs : List Record) (i : ℕ) (fp : Option ℕ) : Option ℕ → Type 0 where
-  top : kinds_from rs fp i ≡ [] → ((us : List Bool) → length us ≡ length rs → marked_from rs fp i us ≡ us) → Onward rs i fp None
-  on : {j : ℕ} → i < j → is_start (at rs j) ≡ true → kinds_from rs fp i ≡ chain rs j
-      → ((us : List Bool) → length us ≡ length rs → marked_from rs fp i us ≡ mark_chain rs j (set us j true)) → Onward rs i fp (Some j)
-
-onward : (rs : List Record) (i : ℕ) (fp : Option ℕ) → i < length rs → Onward rs i fp (ahead rs i fp)
-unfolding climb use_up
-onward rs i None lt = top (kinds_end rs i) (λ us l. marks_end rs i us)
-onward rs i (Some zero) lt = top refl (λ us l. take-append-drop (suc i) us)
-onward rs i (Some (suc n)) lt = rw (lt-ltb 0 (suc n) (omega arith)) (go (is_start (at rs (i + suc n))) refl)
-  where
-    there : at (drop (suc i) rs) n ≡ at rs (i + suc n)
-    there = get_or-drop (suc i) rs n Finish ∙ ap (at rs) (omega arith)
-
-    go : (b : Bool) → is_start (at rs (i + suc n)) ≡ b → Onward rs i (Some (suc n)) (cond b (Some (i + suc n)) None)
-    go true e =
-        let j : ℕ = i + suc n in
-        let s : at rs j ≡ Start (kind_of (at rs j)) (forward_of (at rs j)) = start_is (at rs j) e in
-        let w : j < length rs = start_within rs j e in
-        on (omega arith) e (kinds_step rs i n j (kind_of (at rs j)) (forward_of (at rs j)) Finish refl w s ∙ sym (chain_is rs j e))
-        (marks_step rs i n j (kind_of (at rs j)) (forward_of (at rs j)) Finish refl w s)
-    go false e = top (climb_none (drop (suc i) rs) n (ap is_start there ∙ e))
-        (λ us l. ap (λ (vs : List Bool). take (suc i) us ++ vs) (use_up_none (drop (suc i) rs) n (drop (suc i) us) (length-drop (suc i) us ∙ ap (λ (m : ℕ). m - suc i) l ∙ sym (length-drop (suc i) rs)) (ap is_start there ∙ e)) ∙ take-append-drop (suc i) us)
-
--- The next start of a chain.
+-- the next start of a chain
 pub record Next (rs : List Record) (i j : ℕ) : Type 0 where
   pub further : i < j
-  pub started : is_start (at rs j) ≡ true
+  pub within : j < length rs
   pub chained : chain rs i ≡ kind_of (at rs i) ∷ chain rs j
   pub marked : (us : List Bool) → length us ≡ length rs → mark_chain rs i us ≡ mark_chain rs j (set us j true)
 
+-- the end of a chain
 pub record Top (rs : List Record) (i : ℕ) : Type 0 where
   pub chained : chain rs i ≡ kind_of (at rs i) ∷ []
   pub marked : (us : List Bool) → length us ≡ length rs → mark_chain rs i us ≡ us
 
-module _ (rs : List Record) (i : ℕ) (h : is_start (at rs i) ≡ true) where
-  next_by : (o : Option ℕ) → Onward rs i (forward_of (at rs i)) o → {j : ℕ} → Some j ≡ o → Next rs i j
-  next_by o (top c m) e = absurd (let z : ◌≡◌ {A = ℕ} 0 1 = cc in omega arith)
-  next_by o (on {j = k} f s c m) {j} e = rw (let q : j ≡ k = cc in q) (record {
-    further = f;
-    started = s;
-    chained = chain_is rs i h ∙ ap (λ (ks : List ℕ). kind_of (at rs i) ∷ ks) c;
-    marked = m;
-  })
+abbrev pub Onward : List Record → ℕ → Option ℕ → Type 0
+Onward rs i None = Top rs i
+Onward rs i (Some j) = Next rs i j
 
-  top_by : (o : Option ℕ) → Onward rs i (forward_of (at rs i)) o → None ≡ o → Top rs i
-  top_by o (top c m) e = record { chained = chain_is rs i h ∙ ap (λ (ks : List ℕ). kind_of (at rs i) ∷ ks) c; marked = m }
-  top_by o (on f s c m) e = absurd (let z : ◌≡◌ {A = ℕ} 0 1 = cc in omega arith)
+-- records with a start at i, whose forward parent is fp
+module _ (rs : List Record) (i : ℕ) (fp : Option ℕ) (h : is_start (at rs i) ≡ true) (forward : forward_of (at rs i) ≡ fp) where
+  chain_on : chain rs i ≡ kind_of (at rs i) ∷ kinds_from rs fp i
+  chain_on = chain_is rs i h ∙ ap (λ (f : Option ℕ). kind_of (at rs i) ∷ kinds_from rs f i) forward
 
-  pub next_start : {j : ℕ} → Some j ≡ parent_of rs i → Next rs i j
-  next_start e = next_by (parent_of rs i) (onward rs i (forward_of (at rs i)) (start_within rs i h)) e
+  top : kinds_from rs fp i ≡ [] → ((us : List Bool) → length us ≡ length rs → marked_from rs fp i us ≡ us) → Top rs i
+  top c m = record {
+    chained = chain_on ∙ ap (λ (ks : List ℕ). kind_of (at rs i) ∷ ks) c;
+    marked = λ us l. ap (λ (f : Option ℕ). marked_from rs f i us) forward ∙ m us l;
+  }
 
-  pub last_start : None ≡ parent_of rs i → Top rs i
-  last_start e = top_by (parent_of rs i) (onward rs i (forward_of (at rs i)) (start_within rs i h)) e
+onward_by : (rs : List Record) (i : ℕ) (fp : Option ℕ) → is_start (at rs i) ≡ true → forward_of (at rs i) ≡ fp → Onward rs i (ahead rs i fp)
+unfolding climb use_up
+onward_by rs i None h f = top rs i None h f (kinds_end rs i) (λ us l. marks_end rs i us)
+onward_by rs i (Some zero) h f = top rs i (Some zero) h f refl (λ us l. take-append-drop (suc i) us)
+onward_by rs i (Some (suc n)) h f = rw (lt-ltb 0 (suc n) (omega arith)) (go (is_start (at rs (i + suc n))) refl)
+  where
+    there : at (drop (suc i) rs) n ≡ at rs (i + suc n)
+    there = get_or-drop (suc i) rs n Finish ∙ ap (at rs) (omega arith)
 
--- ---- the code that looks for a forward parent
+    go : (b : Bool) → is_start (at rs (i + suc n)) ≡ b → Onward rs i (cond b (Some (i + suc n)) None)
+    go true e =
+        let j : ℕ = i + suc n in
+        let s : at rs j ≡ Start (kind_of (at rs j)) (forward_of (at rs j)) = start_is (at rs j) e in
+        let w : j < length rs = start_within rs j e in
+        record {
+          further = omega arith;
+          within = w;
+          chained = chain_on rs i (Some (suc n)) h f ∙ ap (λ (ks : List ℕ). kind_of (at rs i) ∷ ks) (kinds_step rs i n j (kind_of (at rs j)) (forward_of (at rs j)) Finish refl w s ∙ sym (chain_is rs j e));
+          marked = λ us l. ap (λ (o : Option ℕ). marked_from rs o i us) f ∙ marks_step rs i n j (kind_of (at rs j)) (forward_of (at rs j)) Finish refl w s us l;
+        }
+    go false e = top rs i (Some (suc n)) h f (climb_none (drop (suc i) rs) n (ap is_start there ∙ e))
+        (λ us l. ap (λ (vs : List Bool). take (suc i) us ++ vs) (use_up_none (drop (suc i) rs) n (drop (suc i) us) (length-drop (suc i) us ∙ ap (λ (m : ℕ). m - suc i) l ∙ sym (length-drop (suc i) rs)) (ap is_start there ∙ e)) ∙ take-append-drop (suc i) us)
 
--- a record, whatever stands for one past the end
-pub read_at : (rs : List Record) (i : ℕ) (d : Record) → i < length rs → get_or rs i d ≡ at rs i
-read_at rs i d h = get_or_default rs i d Finish h
+-- under another name of the records too
+pub onward : (rs : List Record) (i : ℕ) {o : Option ℕ} {qs : List Record} → is_start (at rs i) ≡ true → rs ≡ qs → o ≡ parent_of rs i → Onward qs i o
+onward rs i {o} h e p =
+    let here : Onward rs i o = subst (Onward rs i) (sym p) (onward_by rs i (forward_of (at rs i)) h refl) in
+    rw e at here
 
-abbrev pub NoStart : Record → Type 0
-NoStart r = (k : ℕ) (fp : Option ℕ) → r ≡ Start k fp → ⊥
+-- at a start that is n steps along some chain, which goes on: there is a next one
+module _ (rs : List Record) (i n : ℕ) (ks : List ℕ) (h : is_start (at rs i) ≡ true) (e : chain rs i ≡ drop n ks) where
+  pub is_on : {X : Type 0} (place : X → ℕ) (o : Option X) → n + 1 < length ks → option_map place o ≡ parent_of rs i → IsSome o
+  is_on place (Some x) l p = refl
+  is_on place None l p = absurd (let t : Top rs i = onward rs i h refl p in omega (arith, l, ap length (sym t.chained ∙ e), length-drop n ks))
 
-not_start : (r : Record) → NoStart r → is_start r ≡ false
-not_start (Start k fp) h = absurd (h k fp refl)
-not_start Finish h = refl
-not_start (Token k w) h = refl
-not_start (Error n k) h = refl
-
-no_forward : (r : Record) → NoStart r → forward_of r ≡ None
-no_forward (Start k fp) h = absurd (h k fp refl)
-no_forward Finish h = refl
-no_forward (Token k w) h = refl
-no_forward (Error n k) h = refl
-
-module _ (rs : List Record) (i : ℕ) (d : Record) (lt : i < length rs) where
-  pub no_parent : NoStart (get_or rs i d) → None ≡ parent_of rs i
-  no_parent h = sym (ap (ahead rs i) (no_forward (at rs i) (λ k fp e. h k fp (read_at rs i d lt ∙ e))))
-
-  pub parent_by : {k : ℕ} {fp o : Option ℕ} → get_or rs i d ≡ Start k fp → fp ≡ o → ahead rs i o ≡ parent_of rs i
-  parent_by e p = sym (ap (λ (r : Record). ahead rs i (forward_of r)) (sym (read_at rs i d lt) ∙ e) ∙ ap (ahead rs i) p)
-
--- an offset that leads nowhere, or to no start
-pub ahead_zero : (rs : List Record) (i n : ℕ) → n ≡ 0 → None ≡ ahead rs i (Some n)
-ahead_zero rs i n e = sym (ap (λ (m : ℕ). cond (ltb 0 m && is_start (at rs (i + m))) (Some (i + m)) None) e)
-
-pub ahead_past : (rs : List Record) (i n : ℕ) → length rs ≤ i + n → None ≡ ahead rs i (Some n)
-ahead_past rs i n h = sym (ap (λ (b : Bool). cond b (Some (i + n)) None) (and_right (ltb 0 n) _ (ap is_start (get_or_past rs (i + n) Finish h))))
-
-pub ahead_other : (rs : List Record) (i n : ℕ) (d : Record) → i + n < length rs → NoStart (get_or rs (i + n) d) → None ≡ ahead rs i (Some n)
-ahead_other rs i n d lt h =
-    sym (ap (λ (b : Bool). cond b (Some (i + n)) None) (and_right (ltb 0 n) _ (not_start (at rs (i + n)) (λ k fp e. h k fp (read_at rs (i + n) d lt ∙ e)))))
-
-pub ahead_start : (rs : List Record) (i n : ℕ) (d : Record) {k : ℕ} {fp : Option ℕ} → (n ≡ 0 → ⊥) → i + n < length rs → get_or rs (i + n) d ≡ Start k fp → Some (i + n) ≡ ahead rs i (Some n)
-ahead_start rs i n d z lt e =
-    sym (ap (λ (b : Bool). cond b (Some (i + n)) None) (and_from (ltb 0 n) _ (lt-ltb 0 n (omega (arith, z))) (ap is_start (sym (read_at rs (i + n) d lt) ∙ e))))
-
--- ---- the code that goes along a chain
-
--- one step more
-pub along : (rs : List Record) (i j k n : ℕ) → Next rs j k → chain rs j ≡ drop n (chain rs i) → chain rs k ≡ drop (n + 1) (chain rs i)
-along rs i j k n h e = ap (drop 1) (sym h.chained ∙ e) ∙ drop-drop 1 n (chain rs i)
-
--- a chain that goes on does not end here
-pub goes_on : (rs : List Record) (i j n : ℕ) → Top rs j → chain rs j ≡ drop n (chain rs i) → n + 1 < length (chain rs i) → ⊥
-goes_on rs i j n h e l = omega (arith, ap length (sym h.chained ∙ e), length-drop n (chain rs i))
-
--- it begins at a start, as long as there is something left of it
-pub along_start : (rs : List Record) (i j n : ℕ) → j < length rs → chain rs j ≡ drop n (chain rs i) → n < length (chain rs i) → is_start (at rs j) ≡ true
-along_start rs i j n lt e l = chain_starts rs j lt (omega (arith, ap length e, length-drop n (chain rs i)))
+  -- under another name of the records too
+  pub along : {qs : List Record} {j : ℕ} → qs ≡ rs → Some j ≡ parent_of rs i → chain qs j ≡ drop (n + 1) ks
+  along {j = j} q p =
+      let next : Next rs i j = onward rs i h refl p in
+      ap (λ (ps : List Record). chain ps j) q ∙ ap (drop 1) (sym next.chained ∙ e) ∙ drop-drop 1 n ks
 
 -- ---- the code that enters a chain
 
-pub first_start : (rs : List Record) (i : ℕ) (d : Record) {k : ℕ} {fp : Option ℕ} → i < length rs → get_or rs i d ≡ Start k fp → take 1 (chain rs i) ≡ k ∷ []
-first_start rs i d lt e =
-    let s = sym (read_at rs i d lt) ∙ e in
-    ap (take 1) (chain_is rs i (ap is_start s)) ∙ ap (λ (r : Record). kind_of r ∷ []) s
-
-pub entered : (k : ℕ) (ks : List ℕ) → ks ≡ k ∷ [] → (k ≡ 0 → ⊥) → enter k ∷ [] ≡ enters ks
+entered : (k : ℕ) → (k ≡ 0 → ⊥) → enter k ∷ [] ≡ enters (k ∷ [])
 unfolding enters enter_unless_0
-entered zero ks e z = absurd (z refl)
-entered (suc k) ks e z = sym (ap enters e)
+entered zero z = absurd (z refl)
+entered (suc k) z = refl
 
-pub not_entered : (ks : List ℕ) {k : ℕ} → ks ≡ k ∷ [] → k ≡ 0 → [] ≡ enters ks
+not_entered : [] ≡ enters (0 ∷ [])
 unfolding enters enter_unless_0
-not_entered ks e z = sym (ap enters e ∙ ap (λ (n : ℕ). enters (n ∷ [])) z)
+not_entered = refl
+
+module _ (rs : List Record) (i : ℕ) {k : ℕ} {fp : Option ℕ} (e : at rs i ≡ Start k fp) where
+  first_start : take 1 (chain rs i) ≡ k ∷ []
+  first_start = ap (take 1) (chain_is rs i (ap is_start e)) ∙ ap (λ (r : Record). kind_of r ∷ []) e
+
+  pub first_entered : {size : Item → ℕ} {s t : Heard} {r : Result (Unit {0}) Full} → (k ≡ 0 → ⊥) → Takes size (enter k) s t r → Tells size (enters (take 1 (chain rs i))) s t r
+  first_entered z put = tells_as (entered k z ∙ ap enters (sym first_start)) (tells_one put)
+
+  pub first_abandoned : {size : Item → ℕ} {s : Heard} → k ≡ 0 → Tells size (enters (take 1 (chain rs i))) s s (Ok tt)
+  first_abandoned z = tells_as (not_entered ∙ ap enters (sym (first_start ∙ ap (λ (n : ℕ). n ∷ []) z))) tells_none
 
 -- what lies further along is entered first
 enters_append : (ks js : List ℕ) → enters (ks ++ js) ≡ enters js ++ enters ks
@@ -199,8 +158,16 @@ unfolding enters
 enters_append [] js = sym (append-nil (enters js))
 enters_append (k ∷ ks) js = ap (λ (is : List Item). is ++ enter_unless_0 k) (enters_append ks js) ∙ append_assoc (enters js) (enters ks) (enter_unless_0 k)
 
-pub enters_halves : (ks : List ℕ) (m n : ℕ) → m ≤ n → enters (take (n - m) (drop m ks)) ++ enters (take m ks) ≡ enters (take n ks)
-enters_halves ks m n h = sym (enters_append (take m ks) (take (n - m) (drop m ks))) ∙ ap enters (sym (take-add m (n - m) ks) ∙ ap (λ (k : ℕ). take k ks) (omega arith))
+module _ (ks js : List ℕ) (m n : ℕ) (le : m ≤ n) (far_is : js ≡ drop m ks) where
+  halves : enters (take (n - m) js) ++ enters (take m ks) ≡ enters (take n ks)
+  halves =
+      sym (enters_append (take m ks) (take (n - m) js))
+      ∙ ap enters (ap (λ (is : List ℕ). take m ks ++ take (n - m) is) far_is ∙ sym (take-add m (n - m) ks) ∙ ap (λ (k : ℕ). take k ks) (omega arith))
 
-pub no_start : (rs : List Record) (i : ℕ) (d : Record) → i < length rs → NoStart (get_or rs i d) → is_start (at rs i) ≡ true → ⊥
-no_start rs i d lt h e = both_ways (is_start (at rs i)) (not_start (at rs i) (λ k fp q. h k fp (read_at rs i d lt ∙ q))) e
+  pub both_halves : {size : Item → ℕ} {s t u : Heard} {a : Unit {0}} {r : Result (Unit {0}) Full}
+      → Tells size (enters (take (n - m) js)) s t (Ok a) → Tells size (enters (take m ks)) t u r → Tells size (enters (take n ks)) s u r
+  both_halves far near = tells_as halves (tells_then far near)
+
+  pub far_half : {size : Item → ℕ} {s t : Heard} {e : Full} {r : Result (Unit {0}) Full}
+      → Tells size (enters (take (n - m) js)) s t (Err e) → IsErrAnd r (λ f. f ≡ e) → Tells size (enters (take n ks)) s t r
+  far_half far exit = tells_as halves (tells_exit (enters (take m ks)) far _ exit)

@@ -1,21 +1,15 @@
 -- The marks of a walk: one for each record, and others that it leaves alone.
-use Rattle.std.proofs.Common.{◌≡◌, ℕ, zero, suc, ◌<◌, ◌≤◌, Bool, true, false, List, [], ◌∷◌, map, length, get_or, take, drop, set, replicate, sym, refl, ap, ◌∙◌, le_of_suc-le-suc, not-suc-le-zero, length-take-le, take_at, drop_at}
+use Rattle.std.proofs.Common.{◌≡◌, ℕ, zero, suc, ◌<◌, ◌≤◌, Bool, true, false, List, [], ◌∷◌, map, length, get_or, take, drop, set, replicate, sym, refl, ap, ◌∙◌, length-take, length-take-le, arith, take_at, drop_at}
 use lib.ListN.{length-map, length-replicate}
-use lib.Seq.{map-set}
+use lib.Seq.{map-set, take-set-lt}
 use Rattle.std.proofs.lemmas.List.{get_or-map, get_or-take}
 use Rattle.event_log.specs.declared.event.Record.{Record}
 use Rattle.event_log.specs.Tell.{unused}
 use Rattle.sinks.specs.Walk.{cleared, is_used, used}
 
-take_set_lt : (n : ℕ) (l : List ℕ) (i v : ℕ) → i < n → take n (set l i v) ≡ set (take n l) i v
-take_set_lt zero l i v h = absurd (not-suc-le-zero h)
-take_set_lt (suc n) [] i v h = refl
-take_set_lt (suc n) (x ∷ l) zero v h = refl
-take_set_lt (suc n) (x ∷ l) (suc i) v h = ap (λ (xs : List ℕ). x ∷ xs) (take_set_lt n l i v (le_of_suc-le-suc h))
-
 -- one start more is used
 pub used_set : (n : ℕ) (l : List ℕ) (i : ℕ) → i < n → used n (set l i 1) ≡ set (used n l) i true
-used_set n l i h = ap (map is_used) (take_set_lt n l i 1 h) ∙ map-set is_used (take n l) i 1
+used_set n l i h = ap (map is_used) (take-set-lt n l i 1 h) ∙ map-set is_used (take n l) i 1
 
 pub length_used : (n : ℕ) (l : List ℕ) → n ≤ length l → length (used n l) ≡ n
 length_used n l h = length-map (take n l) is_used ∙ length-take-le n l h
@@ -32,6 +26,13 @@ none_used (suc n) = ap (λ (us : List Bool). false ∷ us) (none_used n)
 unused_is : (rs : List Record) → unused rs ≡ replicate (length rs) false
 unused_is [] = refl
 unused_is (r ∷ rs) = ap (λ (us : List Bool). false ∷ us) (unused_is rs)
+
+-- where each record has a mark that says so, there are enough of them
+pub enough : (rs : List Record) (l : List ℕ) → used (length rs) l ≡ unused rs → length rs ≤ length l
+enough rs l e =
+    let all : length (take (length rs) l) ≡ length rs =
+    sym (length-map (take (length rs) l) is_used) ∙ ap length (e ∙ unused_is rs) ∙ length-replicate (length rs) false in
+    omega (arith, all, length-take (length rs) l)
 
 pub used_none : (rs : List Record) (l : List ℕ) → used (length rs) (cleared (length rs) l) ≡ unused rs
 used_none rs l =

@@ -6,7 +6,7 @@ use refusals::Layer;
 use std::process::Abort;
 use std::test::Fail;
 use tokens::input::Input;
-use tokens::syntax_kind::EOF;
+use tokens::syntax_kind::{EOF, TOMBSTONE};
 
 const TOKEN: Record = Record::Token { kind: 3, width: 1 };
 
@@ -52,7 +52,7 @@ fn told(
     let mut marks = [7; 16];
     let mut listing = Listing::new(buffer);
     assert!(rt; records.len() <= 16);
-    clear(&mut marks, records.len());
+    marks[..records.len()].fill(0);
     assert_eq!(rt; parts(tell(records, &mut marks, &mut listing)), answer);
     assert_eq!(rt; listing.bytes(), lines);
     Ok(())

@@ -4,5 +4,5 @@ use Rattle.sinks.proofs.walk.tell.Given as goal
 
 abbrev pub invariant-loop-at : goal.invariant-loop-at
 invariant-loop-at g l =
-    SoFar (amounts g.S.Sink.size) l.records l.at l.initial.marks l.marks
+    SoFar (amounts g.S.Sink.size) l.records l.at-counter l.initial.marks l.marks
     (g.S.Sink.heard l.initial.sink) (g.S.Sink.heard l.sink)
