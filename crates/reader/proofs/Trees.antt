@@ -1,34 +1,23 @@
 -- The text of a tree: labels, indents and lines.
-use Rattle.std.proofs.Common.{◌≡◌, ℕ, zero, suc, ◌+◌, ◌<◌, ◌≤◌, Bool, false, cond, List, [], ◌++◌, length, get_or, drop, is_ok, IfOk, Ok, Err, codes, decimal, Result, sym, refl, ap, ◌∙◌, append_assoc, append-nil, add-one, arith, drop_of_length-le}
+use Rattle.std.proofs.Common.{◌≡◌, ℕ, zero, suc, ◌+◌, ◌<◌, ◌≤◌, cond, List, [], ◌++◌, length, get_or, drop, is_ok, IfOk, Ok, Err, codes, decimal, Result, sym, refl, ap, ◌∙◌, append_assoc, append-nil, add-one, arith, drop_of_length-le}
 use Rattle.std.proofs.lemmas.List.{drop_more}
-use Rattle.std.proofs.lemmas.Bool.{eq-eqb, ne_eqb}
+use Rattle.std.proofs.lemmas.Bool.{eq-eqb}
 use Rattle.event_log.specs.declared.item.Item.{Item}
 use Rattle.event_log.specs.declared.item.Item.TheVariants.{Enter, Leave, Token, Error}
 use Rattle.sinks.specs.declared.table.entry.Entry.{Entry}
 use Rattle.sinks.specs.Nodes.{items_in}
 use Rattle.reader.specs.Tree.{name_of, label, indent, line, depth_after, lines}
 
--- ---- labels, by the branches of the code
+-- ---- labels that end early
 
-module _ (x : Item) (k w : ℕ) (ns : List ℕ) (is : x ≡ Token k w) (named : ns ≡ name_of k) where
-  abbrev rest : Bool → List ℕ
-  rest b = cond b [] (codes " " ++ decimal w)
+pub label_one : (x : Item) (k w : ℕ) (ns : List ℕ) → x ≡ Token k w → ns ≡ name_of k → w ≡ 1 → ns ≡ label x
+label_one x k w ns is named e =
+    sym (append-nil ns) ∙ (λ j. named j ++ cond (sym (eq-eqb w 1 e) j) [] (codes " " ++ decimal w)) ∙ ap label (sym is)
 
-  pub label_one : w ≡ 1 → ns ≡ label x
-  label_one e = sym (append-nil ns) ∙ (λ j. named j ++ rest (sym (eq-eqb w 1 e) j)) ∙ ap label (sym is)
-
-  pub label_wide : (w ≡ 1 → ⊥) → ns ++ (codes " " ++ decimal w) ≡ label x
-  label_wide ne = (λ j. named j ++ rest (sym (ne_eqb w 1 ne) j)) ∙ ap label (sym is)
-
-module _ (x : Item) (n k : ℕ) (is : x ≡ Error n k) where
-  abbrev because : Bool → List ℕ → List ℕ
-  because b ns = codes "error " ++ decimal n ++ cond b [] (codes ": expected " ++ ns)
-
-  pub label_error : k ≡ 0 → codes "error " ++ decimal n ≡ label x
-  label_error e = sym (append-nil (codes "error " ++ decimal n)) ∙ (λ j. because (sym (eq-eqb k 0 e) j) (name_of k)) ∙ ap label (sym is)
-
-  pub label_expected : (ns : List ℕ) → ns ≡ name_of k → (k ≡ 0 → ⊥) → because false ns ≡ label x
-  label_expected ns named ne = (λ j. because (sym (ne_eqb k 0 ne) j) (named j)) ∙ ap label (sym is)
+pub label_error : (x : Item) (n k : ℕ) → x ≡ Error n k → k ≡ 0 → codes "error " ++ decimal n ≡ label x
+label_error x n k is e =
+    sym (append-nil (codes "error " ++ decimal n))
+    ∙ ap (λ b. codes "error " ++ decimal n ++ cond b [] (codes ": expected " ++ name_of k)) (sym (eq-eqb k 0 e)) ∙ ap label (sym is)
 
 -- ---- indents
 

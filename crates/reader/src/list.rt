@@ -33,12 +33,8 @@ fn too_long(bytes: &[u8]) -> bool
 fn take_all(reading: &mut Reading) -> Result<(), Refusal>
     ensures { TakesAll reading.old.log reading.new.log result }
 {
-    loop {
-        let taken = reading.skip()?;
-        if taken.tokens == 0 {
-            return Ok(());
-        }
-    }
+    while reading.skip()?.tokens > 0 {}
+    Ok(())
 }
 
 /// Tells a sink what the file holds.

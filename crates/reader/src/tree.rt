@@ -14,10 +14,7 @@ use tokens::syntax_kind::TOMBSTONE;
 fn text_at(table: &[&'static str], at: usize) -> &'static str
     ensures { result.now ≡ slice_index_or (texts table.now) at unknown }
 {
-    if at >= table.len() {
-        return "?";
-    }
-    table[at]
+    table.get(at).copied().unwrap_or("?")
 }
 
 fn kind_name(kind: u16) -> &'static str
@@ -33,19 +30,14 @@ fn label(heap: Global, item: Item) -> Result<String, AllocError>
     match item {
         Item::Enter { kind } => format!(in heap; "{}", kind_name(kind)),
         Item::Leave => format!(in heap; ""),
-        Item::Token { kind, width } => {
-            if width == 1 {
-                format!(in heap; "{}", kind_name(kind))
-            } else {
-                format!(in heap; "{} {width}", kind_name(kind))
-            }
-        }
+        Item::Token { kind, width: 1 } => format!(in heap; "{}", kind_name(kind)),
+        Item::Token { kind, width } => format!(in heap; "{} {width}", kind_name(kind)),
+        Item::Error {
+            number,
+            kind: TOMBSTONE,
+        } => format!(in heap; "error {number}"),
         Item::Error { number, kind } => {
-            if kind == TOMBSTONE {
-                format!(in heap; "error {number}")
-            } else {
-                format!(in heap; "error {number}: expected {}", kind_name(kind))
-            }
+            format!(in heap; "error {number}: expected {}", kind_name(kind))
         }
     }
 }

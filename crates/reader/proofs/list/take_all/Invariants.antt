@@ -2,8 +2,8 @@ use Rattle.std.proofs.Common.{◌≡◌, ◌-◌, length}
 use Rattle.event_log.specs.Model.{env}
 use Rattle.reader.proofs.list.take_all.Given as goal
 
-abbrev pub invariant-loop-taken : goal.invariant-loop-taken
-invariant-loop-taken l = env l.reading.log ≡ env l.initial.reading.log
+abbrev pub invariant-loop : goal.invariant-loop
+invariant-loop l = env l.reading.log ≡ env l.initial.reading.log
 
-abbrev pub decreases-loop-taken : goal.decreases-loop-taken
-decreases-loop-taken l = length l.reading.log.input.kinds.now - l.reading.log.place
+abbrev pub decreases-loop : goal.decreases-loop
+decreases-loop l = length l.reading.log.input.kinds.now - l.reading.log.place
