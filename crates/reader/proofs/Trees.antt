@@ -1,23 +1,11 @@
--- The text of a tree: labels, indents and lines.
-use Rattle.std.proofs.Common.{◌≡◌, ℕ, zero, suc, ◌+◌, ◌<◌, ◌≤◌, cond, List, [], ◌++◌, length, get_or, drop, is_ok, IfOk, Ok, Err, codes, decimal, Result, sym, refl, ap, ◌∙◌, append_assoc, append-nil, add-one, arith, drop_of_length-le}
+-- The text of a tree: indents and lines.
+use Rattle.std.proofs.Common.{◌≡◌, ℕ, zero, suc, ◌+◌, ◌<◌, ◌≤◌, List, ◌++◌, length, get_or, drop, codes, sym, refl, ap, ◌∙◌, append_assoc, append-nil, add-one, arith, drop_of_length-le}
 use Rattle.std.proofs.lemmas.List.{drop_more}
-use Rattle.std.proofs.lemmas.Bool.{eq-eqb}
 use Rattle.event_log.specs.declared.item.Item.{Item}
 use Rattle.event_log.specs.declared.item.Item.TheVariants.{Enter, Leave, Token, Error}
 use Rattle.sinks.specs.declared.table.entry.Entry.{Entry}
 use Rattle.sinks.specs.Nodes.{items_in}
-use Rattle.reader.specs.Tree.{name_of, label, indent, line, depth_after, lines}
-
--- ---- labels that end early
-
-pub label_one : (x : Item) (k w : ℕ) (ns : List ℕ) → x ≡ Token k w → ns ≡ name_of k → w ≡ 1 → ns ≡ label x
-label_one x k w ns is named e =
-    sym (append-nil ns) ∙ (λ j. named j ++ cond (sym (eq-eqb w 1 e) j) [] (codes " " ++ decimal w)) ∙ ap label (sym is)
-
-pub label_error : (x : Item) (n k : ℕ) → x ≡ Error n k → k ≡ 0 → codes "error " ++ decimal n ≡ label x
-label_error x n k is e =
-    sym (append-nil (codes "error " ++ decimal n))
-    ∙ ap (λ b. codes "error " ++ decimal n ++ cond b [] (codes ": expected " ++ name_of k)) (sym (eq-eqb k 0 e)) ∙ ap label (sym is)
+use Rattle.reader.specs.Tree.{indent, line, depth_after, lines}
 
 -- ---- indents
 
@@ -35,24 +23,6 @@ indent_more ts us vs d h g =
     g ∙ ap (λ (xs : List ℕ). xs ++ codes "    ") h ∙ append_assoc ts (indent d) (codes "    ") ∙ ap (λ (xs : List ℕ). ts ++ xs) (indent_push d ∙ ap indent (sym (add-one d)))
 
 -- ---- lines
-
--- what is written where the last write is accepted
-pub written : {E : Type 0} (r : Result (Unit {0}) E) (s a b : List ℕ) → s ≡ cond (is_ok r) a b → IfOk r (λ _. s ≡ a)
-written (Ok x) s a b h = h
-written (Err e) s a b h = tt
-
-labels_line : (x : Item) (d : ℕ) → (x ≡ Leave → ⊥) → indent d ++ label x ++ codes "\n" ≡ line d x
-labels_line (Enter k) d ne = refl
-labels_line Leave d ne = absurd (ne refl)
-labels_line (Token k w) d ne = refl
-labels_line (Error n k) d ne = refl
-
--- an indent, then a label, then the end of the line
-pub line_more : (x : Item) (d : ℕ) (ts us vs ls : List ℕ) → (x ≡ Leave → ⊥) → us ≡ ts ++ indent d → ls ≡ label x → vs ≡ us ++ ls → vs ++ codes "\n" ≡ ts ++ line d x
-line_more x d ts us vs ls ne h l g =
-    ap (λ (bs : List ℕ). bs ++ codes "\n") (g ∙ (λ j. h j ++ l j) ∙ append_assoc ts (indent d) (label x))
-    ∙ append_assoc ts (indent d ++ label x) (codes "\n")
-    ∙ ap (λ (bs : List ℕ). ts ++ bs) (labels_line x d ne)
 
 pub depth_low : (d : ℕ) (x : Item) → depth_after d x ≤ d + 1
 depth_low d (Enter k) = omega arith
