@@ -2,6 +2,7 @@
 //! the argument `time` also how long the telling takes for each record.
 #![tactic(auto)]
 
+use crate::failure::Failure;
 use crate::path::path;
 use event_log::event::Record;
 use refusals::Refusal;
@@ -12,6 +13,7 @@ use std::process::ExitCode;
 use std::time::Instant;
 use std::{env, io};
 
+mod failure;
 mod path;
 
 /// How many raw tokens a path has at most.
@@ -27,68 +29,64 @@ fn tell(records: &[Record], marks: &mut [u8], memory: &mut [Entry]) -> Result<us
     Ok(table.entries().len())
 }
 
-fn refuse(rt: &HostRuntime, refusal: Refusal) -> anyhow::Result<ExitCode> {
-    let number = refusal.number();
-    let place = refusal.place();
-    println!(rt; "refused {number} {place}")?;
-    Ok(ExitCode::FAILURE)
-}
-
 /// Prints the tenths of a nanosecond that a record takes.
 fn time(
     rt: &HostRuntime,
     records: &[Record],
     marks: &mut [u8],
     memory: &mut [Entry],
-) -> anyhow::Result<ExitCode> {
+) -> Result<(), Failure> {
     let count = records.len().max(1);
     let turns = (RECORDS / count).max(1);
     let start = Instant::now(rt)?;
     for _ in 0..turns {
-        if let Err(refusal) = tell(records, marks, memory) {
-            return refuse(rt, refusal);
-        }
+        tell(records, marks, memory)?;
     }
     let nanos = start.elapsed(rt)?.as_nanos();
     let tenths = nanos.saturating_mul(10) / (turns as u128) / (count as u128);
     let whole = tenths / 10;
     let part = tenths % 10;
     println!(rt; "    {whole}.{part} ns for each record")?;
-    Ok(ExitCode::SUCCESS)
+    Ok(())
 }
 
 /// The longest path of at most so many raw tokens: one for the first `a`, and three for each `::a` behind it.
-fn bench(rt: &HostRuntime, length: usize, timed: bool) -> anyhow::Result<ExitCode> {
+fn bench(rt: &HostRuntime, length: usize, timed: bool) -> Result<(), Failure> {
     let more = length.saturating_sub(1) / 3;
     let tokens = 1 + 3 * more;
     let records = path(rt.alloc(), more)?;
     let count = records.len();
     let mut marks = vec![in rt.alloc(); 0; count]?;
     let mut memory = vec![in rt.alloc(); Entry::NONE; count]?;
-    match tell(&records, &mut marks, &mut memory) {
-        Ok(items) => println!(rt; "{tokens} tokens: {count} records, {items} items")?,
-        Err(refusal) => return refuse(rt, refusal),
-    }
+    let items = tell(&records, &mut marks, &mut memory)?;
+    println!(rt; "{tokens} tokens: {count} records, {items} items")?;
     if timed {
-        return time(rt, &records, &mut marks, &mut memory);
+        time(rt, &records, &mut marks, &mut memory)?;
     }
-    Ok(ExitCode::SUCCESS)
+    Ok(())
 }
 
 fn is_timed(rt: &HostRuntime) -> io::Result<bool> {
-    match env::args(rt)?.nth(1) {
-        Some(word) => Ok(word.as_str() == "time"),
-        None => Ok(false),
+    Ok(env::args(rt)?
+        .nth(1)
+        .is_some_and(|word| word.as_str() == "time"))
+}
+
+fn run(rt: &HostRuntime) -> Result<(), Failure> {
+    let timed = is_timed(rt)?;
+    for length in LENGTHS {
+        bench(rt, length, timed)?;
     }
+    Ok(())
 }
 
 fn main(rt: HostRuntime) -> anyhow::Result<ExitCode> {
-    let timed = is_timed(&rt)?;
-    for length in LENGTHS {
-        let code = bench(&rt, length, timed)?;
-        if code != ExitCode::SUCCESS {
-            return Ok(code);
+    match run(&rt) {
+        Ok(()) => Ok(ExitCode::SUCCESS),
+        Err(Failure::Refused(refusal)) => {
+            println!(rt; "{refusal}")?;
+            Ok(ExitCode::FAILURE)
         }
+        Err(Failure::Broken(error)) => Err(error),
     }
-    Ok(ExitCode::SUCCESS)
 }

@@ -30,7 +30,7 @@ const SEGMENT: [Record; 6] = [
 fn forward(records: u16, left: usize) -> Option<u16>
     ensures { result ≡ parent records left }
 {
-    if left == 0 { None } else { Some(records) }
+    (left > 0).then_some(records)
 }
 
 /// A path of one segment and so many more.

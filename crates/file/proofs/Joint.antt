@@ -3,7 +3,7 @@ use Rattle.std.proofs.Common.{◌≡◌, ℕ, ◌+◌, ◌-◌, ◌*◌, ◌/◌
 use Rattle.refusals.specs.declared.Refusal.{Refusal}
 use Rattle.std.proofs.lemmas.Bool.{cases_lt, lt-ltb, le-ltb}
 use Rattle.file.specs.TokenFile.{written, joint_of, joint_word, words_for, JointBits, Columns, Reads}
-use Rattle.file.proofs.Columns.{written_at}
+use Rattle.file.proofs.Fronts.{written_at}
 use Rattle.file.proofs.Numbers.{bit_small, word_bit, word_past}
 
 joint_law : (bytes column : List ℕ) (n : ℕ) → JointBits bytes n (written (joint_word bytes n) (words_for n) column)

@@ -1,8 +1,8 @@
 //! Reads a token file, bit by bit, into lent columns.
 #![tactic(auto)]
 
-ghost use Rattle.std.specs.Prelude.{◌≡◌, ◌+◌, ◌*◌, ◌^◌, ◌<◌, ◌≤◌, length, IfOk};
-ghost use Rattle.file.specs.TokenFile.{bit_at, number_at, token_at, kind_of, contextual_of, joint_of, edition_of, tokens_of, words_for, written, word_of, joint_word, JointBits, columns, Reads};
+ghost use Rattle.std.specs.Prelude.{◌≡◌, ℕ, ◌+◌, ◌*◌, ◌^◌, ◌<◌, ◌≤◌, ◌↔◌, IsTrue, length, drop, slice_index_or, IfOk, MatchResult};
+ghost use Rattle.file.specs.TokenFile.{bit_at, number_at, token_at, kind_of, contextual_of, joint_of, edition_of, tokens_of, words_for, joint_word, JointBits, columns as columns_of, Reads};
 
 use refusals::{Layer, Refusal};
 use tokens::input::MAX_TOKENS;
@@ -53,108 +53,134 @@ fn token_start(i: usize) -> usize
     COUNT_BITS + TOKEN_BITS * i
 }
 
-/// The number of tokens of a file that has them all, and nothing behind them.
-fn token_count(bytes: &[u8]) -> Result<usize, Refusal>
-    ensures answer { result ≡ tokens_of bytes.now }
-    ensures held { IfOk result (λ n. (n ≤ 4096) × (token_at n ≤ 8 * length bytes.now)) }
-{
-    if bytes.len() < 2 {
-        return Err(Refusal::FileShort);
-    }
-    let count = usize::from(number(bytes, 0, COUNT_BITS));
-    if count > MAX_TOKENS {
-        return Err(Refusal::TooManyTokens { layer: Layer::File });
-    }
-    let end = token_start(count);
-    let size = end.div_ceil(8);
-    if bytes.len() < size {
-        return Err(Refusal::FileShort);
-    }
-    if bytes.len() > size || number(bytes, end, 8 * size - end) != 0 {
-        return Err(Refusal::FileLong);
-    }
-    Ok(count)
+/// A file that has all its tokens, and nothing behind them.
+#[derive(Clone, Copy)]
+struct TokenFile<'a> {
+    bytes: &'a [u8],
+    /// how many tokens it has
+    count: usize,
+    ghost few: { count ≤ 4096 },
+    ghost held: { token_at count ≤ 8 * length bytes.now },
 }
 
-/// Writes the 8 bits that stand `offset` bits into each token.
-fn read_kinds(bytes: &[u8], offset: usize, count: usize, column: &mut [u16])
-    requires { (count ≤ 4096) × ((token_at count ≤ 8 * length bytes.now) × ((count ≤ length column.old) × (offset ≤ 8))) }
-    ensures { column.new ≡ written (λ i. number_at bytes.now (token_at i + offset) 8) count column.old }
-{
-    for (i, kind) in column[0..count].iter_mut().enumerate() {
-        *kind = number(bytes, token_start(i) + offset, 8);
-    }
-}
-
-fn read_editions(bytes: &[u8], count: usize, editions: &mut [u8])
-    requires { (count ≤ 4096) × ((token_at count ≤ 8 * length bytes.now) × (count ≤ length editions.old)) }
-    ensures { editions.new ≡ written (edition_of bytes.now) count editions.old }
-{
-    for (i, edition) in editions[0..count].iter_mut().enumerate() {
-        *edition = number(bytes, token_start(i) + EDITION, 2) as u8;
-    }
-}
-
-/// The joint bits of `count` tokens from `first` on, the first the least significant.
-fn joint_word(bytes: &[u8], first: usize, count: usize) -> u64
-    requires { (first + count ≤ 4096) × ((token_at (first + count) ≤ 8 * length bytes.now) × (count ≤ 64)) }
-    ensures { result ≡ word_of (λ b. joint_of bytes.now (first + b)) count }
-{
-    let mut word = 0;
-    for b in 0..count {
-        word += u64::from(bit(bytes, token_start(first + b) + JOINT)) << b;
-    }
-    word
-}
-
-/// Writes each word whole, so the bits past the last token are 0.
-fn read_joint(bytes: &[u8], count: usize, joint: &mut [u64])
-    requires { (count ≤ 4096) × ((token_at count ≤ 8 * length bytes.now) × (words_for count ≤ length joint.old)) }
-    ensures { joint.new ≡ written (joint_word bytes.now count) (words_for count) joint.old }
-{
-    for (w, word) in joint[0..count.div_ceil(64)].iter_mut().enumerate() {
-        let first = 64 * w;
-        *word = joint_word(bytes, first, (count - first).min(64));
-    }
-}
-
-/// Reads the file into the columns.
-fn read_columns(
-    bytes: &[u8],
-    kinds: &mut [u16],
-    contextual: &mut [u16],
-    joint: &mut [u64],
-    editions: &mut [u8],
-) -> Result<usize, Refusal>
-    ensures { Reads bytes.now (columns kinds.old contextual.old joint.old editions.old) (columns kinds.new contextual.new joint.new editions.new) result }
-{
-    let count = token_count(bytes)?;
-    if kinds.len() < count
-        || contextual.len() < count
-        || joint.len() < count.div_ceil(64)
-        || editions.len() < count
+impl<'a> TokenFile<'a> {
+    fn open(bytes: &'a [u8]) -> Result<TokenFile<'a>, Refusal>
+        ensures { MatchResult result (λ file. (file.bytes.now ≡ bytes.now) × (tokens_of bytes.now ≡ Ok file.count)) (λ e. tokens_of bytes.now ≡ Err e) }
     {
-        return Err(Refusal::ColumnShort);
+        if bytes.len() < 2 {
+            return Err(Refusal::FileShort);
+        }
+        let count = usize::from(number(bytes, 0, COUNT_BITS));
+        if count > MAX_TOKENS {
+            return Err(Refusal::TooManyTokens { layer: Layer::File });
+        }
+        let end = token_start(count);
+        let size = end.div_ceil(8);
+        if bytes.len() < size {
+            return Err(Refusal::FileShort);
+        }
+        if bytes.len() > size || number(bytes, end, 8 * size - end) != 0 {
+            return Err(Refusal::FileLong);
+        }
+        Ok(TokenFile { bytes, count })
     }
-    read_kinds(bytes, 0, count, kinds);
-    read_kinds(bytes, CONTEXTUAL, count, contextual);
-    read_joint(bytes, count, joint);
-    read_editions(bytes, count, editions);
-    Ok(count)
+
+    fn kind(&self, i: usize) -> u16
+        requires { i < self.now.count }
+        ensures { result ≡ kind_of self.now.bytes.now i }
+    {
+        number(self.bytes, token_start(i), 8)
+    }
+
+    fn contextual_kind(&self, i: usize) -> u16
+        requires { i < self.now.count }
+        ensures { result ≡ contextual_of self.now.bytes.now i }
+    {
+        number(self.bytes, token_start(i) + CONTEXTUAL, 8)
+    }
+
+    fn joint_bit(&self, i: usize) -> u8
+        requires { i < self.now.count }
+        ensures { result ≡ joint_of self.now.bytes.now i }
+    {
+        bit(self.bytes, token_start(i) + JOINT)
+    }
+
+    fn edition(&self, i: usize) -> u8
+        requires { i < self.now.count }
+        ensures { result ≡ edition_of self.now.bytes.now i }
+    {
+        number(self.bytes, token_start(i) + EDITION, 2) as u8
+    }
+
+    /// The joint bits of the tokens from 64 `w` on, the first the least significant; the bits past the last token are 0.
+    fn joint_word(&self, w: usize) -> u64
+        requires { w < words_for self.now.count }
+        ensures { result ≡ joint_word self.now.bytes.now self.now.count w }
+    {
+        let first = 64 * w;
+        let mut word = 0;
+        for b in 0..(self.count - first).min(64) {
+            word += u64::from(self.joint_bit(first + b)) << b;
+        }
+        word
+    }
+}
+
+/// Writes `entry(i)` at each `i` below `count`.
+fn write_front<T: Copy, F: Fn(usize) -> T>(column: &mut [T], count: usize, entry: F)
+    requires room { count ≤ length column.old }
+    requires callable { (i : ℕ) → i < count → F.pre entry i }
+    ensures front { (i : ℕ) (d : T) → i < count → F.post entry i (slice_index_or column.new i d) }
+    ensures rest { drop count column.new ≡ drop count column.old }
+{
+    for (i, slot) in column[..count].iter_mut().enumerate() {
+        *slot = entry(i);
+    }
+}
+
+/// The columns that a file is read into.
+#[derive(Drop)]
+pub struct Columns<'a> {
+    pub kinds: &'a mut [u16],
+    pub contextual: &'a mut [u16],
+    pub joint: &'a mut [u64],
+    pub editions: &'a mut [u8],
+}
+
+impl Columns<'_> {
+    /// Whether so many tokens fit.
+    fn fits(&self, count: usize) -> bool
+        ensures { IsTrue result ↔ ((count ≤ length self.now.kinds.now) × (count ≤ length self.now.contextual.now) × (words_for count ≤ length self.now.joint.now) × (count ≤ length self.now.editions.now)) }
+    {
+        count <= self.kinds.len()
+            && count <= self.contextual.len()
+            && count.div_ceil(64) <= self.joint.len()
+            && count <= self.editions.len()
+    }
 }
 
 /// Reads the file into the columns, and answers how many tokens it has. In `joint`, token i is at bit i modulo 64
 /// of word i divided by 64, the lowest bit being 0. A refusal leaves the columns as they are, and what lies past
 /// the last token, or past the last word of joint bits, always stays.
-pub fn read_file(
-    bytes: &[u8],
-    kinds: &mut [u16],
-    contextual: &mut [u16],
-    joint: &mut [u64],
-    editions: &mut [u8],
-) -> Result<usize, Refusal>
-    ensures reads { Reads bytes.now (columns kinds.old contextual.old joint.old editions.old) (columns kinds.new contextual.new joint.new editions.new) result }
-    ensures joint_bits { IfOk result (λ n. JointBits bytes.now n joint.new) }
+pub fn read_file(bytes: &[u8], columns: Columns<'_>) -> Result<usize, Refusal>
+    ensures reads { Reads bytes.now (columns_of columns.entry.kinds.now columns.entry.contextual.now columns.entry.joint.now columns.entry.editions.now) (columns_of columns.exit.0.now columns.exit.1.0.now columns.exit.1.1.0.now columns.exit.1.1.1.0.now) result }
+    ensures joint_bits { IfOk result (λ n. JointBits bytes.now n columns.exit.1.1.0.now) }
 {
-    read_columns(bytes, kinds, contextual, joint, editions)
+    let file = TokenFile::open(bytes)?;
+    let count = file.count;
+    if !columns.fits(count) {
+        return Err(Refusal::ColumnShort);
+    }
+    let Columns {
+        kinds,
+        contextual,
+        joint,
+        editions,
+    } = columns;
+    write_front(kinds, count, |i| file.kind(i));
+    write_front(contextual, count, |i| file.contextual_kind(i));
+    write_front(joint, count.div_ceil(64), |w| file.joint_word(w));
+    write_front(editions, count, |i| file.edition(i));
+    Ok(count)
 }

@@ -19,7 +19,7 @@ use Rattle.grammar.specs.Verdict.{verdict}
 use Rattle.grammar.specs.Open.{Opens}
 use Rattle.grammar.specs.Open.Opens.{opened, refused}
 use Rattle.grammar.proofs.Verdicts.{no_end}
-use Rattle.file.specs.TokenFile.{written, words_for, kind_of, contextual_of, edition_of, joint_word}
+use Rattle.file.specs.TokenFile.{written, words_for, kind_of, contextual_of, edition_of, joint_word, Columns, Reads}
 use Rattle.sinks.specs.Sink.{Heard}
 use Rattle.sinks.specs.Walk.{Walks, Lawful}
 use Rattle.sinks.proofs.Laws.{lawful}
@@ -40,16 +40,15 @@ front f k n xs ys p e =
     ap (λ (zs : List ℕ). take (k - 0) zs) e ∙ ap (λ (j : ℕ). take j (written f n xs)) (omega arith)
     ∙ take_at (map f (range_with_len 0 n)) (drop n xs) n (length-map-range_with_len f 0 n)
 
--- the columns, as far as the tokens go, hold the file
-pub holds : (bytes : List ℕ) (n w : ℕ) (ls ds ws fs : List ℕ) {ks cs js es : List ℕ} (i : Input) → w ≡ words_for n
-    → i.kinds.now ≡ take (n - 0) ks → i.contextual.now ≡ take (n - 0) cs → i.joint.now ≡ take (w - 0) js → i.editions.now ≡ take (n - 0) es
-    → ks ≡ written (kind_of bytes) n ls → cs ≡ written (contextual_of bytes) n ds → js ≡ written (joint_word bytes n) (words_for n) ws → es ≡ written (edition_of bytes) n fs
+-- the columns that were read, as far as the tokens go, hold the file
+pub holds : {bytes : List ℕ} {n w : ℕ} {before after : Columns} (i : Input) → Reads bytes before after (Ok n) → w ≡ words_for n
+    → i.kinds.now ≡ take (n - 0) after.kinds → i.contextual.now ≡ take (n - 0) after.contextual → i.joint.now ≡ take (w - 0) after.joint → i.editions.now ≡ take (n - 0) after.editions
     → HoldsFile bytes n i
-holds bytes n w ls ds ws fs i e a b c d p q r s = record {
-  kinds = a ∙ front (kind_of bytes) n n _ _ refl p;
-  contextual = b ∙ front (contextual_of bytes) n n _ _ refl q;
-  joint = c ∙ front (joint_word bytes n) w (words_for n) _ _ e r;
-  editions = d ∙ front (edition_of bytes) n n _ _ refl s;
+holds {bytes} {n} {w} i r e a b c d = record {
+  kinds = a ∙ front (kind_of bytes) n n _ _ refl r.kinds_read;
+  contextual = b ∙ front (contextual_of bytes) n n _ _ refl r.contextual_read;
+  joint = c ∙ front (joint_word bytes n) w (words_for n) _ _ e r.joint_read;
+  editions = d ∙ front (edition_of bytes) n n _ _ refl r.editions_read;
 }
 
 -- columns that were not opened

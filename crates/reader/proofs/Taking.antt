@@ -1,5 +1,5 @@
 -- Tokens that are taken one by one, up to the last.
-use Rattle.std.proofs.Common.{◌≡◌, ℕ, ◌<◌, Bool, true, false, cond, eqb, ltb, length, IsErrAnd, Ok, Err, Result, sym, refl, ap, ◌∙◌, arith}
+use Rattle.std.proofs.Common.{◌≡◌, ℕ, Bool, true, false, cond, eqb, ltb, length, IsErrAnd, Ok, Err, Result, sym, refl, ap, ◌∙◌, arith}
 use Rattle.std.proofs.lemmas.Bool.{eqb-true, eqb-false}
 use Rattle.event_log.specs.declared.parser.Parser.{Parser}
 use Rattle.event_log.specs.declared.records.Taken.{Taken}
@@ -57,9 +57,6 @@ ended {l} {m} (performed f a e h tokens clean) z = record {
   where
     place : m.place ≡ l.place
     place = h.place ∙ omega (arith, tokens, z)
-
-pub moved : {l m : Parser} {t : Taken} → Performs bump_any l m (Ok t) → (t.tokens ≡ 0 → ⊥) → l.place < m.place
-moved (performed f a e h tokens clean) n = omega (arith, h.place, tokens, n)
 
 pub same_tokens : {l m : Parser} {t : Taken} → Performs bump_any l m (Ok t) → env m ≡ env l
 same_tokens (performed f a e h tokens clean) = h.same

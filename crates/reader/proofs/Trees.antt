@@ -1,34 +1,11 @@
--- The text of a tree: labels, indents and lines.
-use Rattle.std.proofs.Common.{◌≡◌, ℕ, zero, suc, ◌+◌, ◌<◌, ◌≤◌, Bool, false, cond, List, [], ◌++◌, length, get_or, drop, is_ok, IfOk, Ok, Err, codes, decimal, Result, sym, refl, ap, ◌∙◌, append_assoc, append-nil, add-one, arith, drop_of_length-le}
+-- The text of a tree: indents and lines.
+use Rattle.std.proofs.Common.{◌≡◌, ℕ, zero, suc, ◌+◌, ◌<◌, ◌≤◌, List, ◌++◌, length, get_or, drop, codes, sym, refl, ap, ◌∙◌, append_assoc, append-nil, add-one, arith, drop_of_length-le}
 use Rattle.std.proofs.lemmas.List.{drop_more}
-use Rattle.std.proofs.lemmas.Bool.{eq-eqb, ne_eqb}
 use Rattle.event_log.specs.declared.item.Item.{Item}
 use Rattle.event_log.specs.declared.item.Item.TheVariants.{Enter, Leave, Token, Error}
 use Rattle.sinks.specs.declared.table.entry.Entry.{Entry}
 use Rattle.sinks.specs.Nodes.{items_in}
-use Rattle.reader.specs.Tree.{name_of, label, indent, line, depth_after, lines}
-
--- ---- labels, by the branches of the code
-
-module _ (x : Item) (k w : ℕ) (ns : List ℕ) (is : x ≡ Token k w) (named : ns ≡ name_of k) where
-  abbrev rest : Bool → List ℕ
-  rest b = cond b [] (codes " " ++ decimal w)
-
-  pub label_one : w ≡ 1 → ns ≡ label x
-  label_one e = sym (append-nil ns) ∙ (λ j. named j ++ rest (sym (eq-eqb w 1 e) j)) ∙ ap label (sym is)
-
-  pub label_wide : (w ≡ 1 → ⊥) → ns ++ (codes " " ++ decimal w) ≡ label x
-  label_wide ne = (λ j. named j ++ rest (sym (ne_eqb w 1 ne) j)) ∙ ap label (sym is)
-
-module _ (x : Item) (n k : ℕ) (is : x ≡ Error n k) where
-  abbrev because : Bool → List ℕ → List ℕ
-  because b ns = codes "error " ++ decimal n ++ cond b [] (codes ": expected " ++ ns)
-
-  pub label_error : k ≡ 0 → codes "error " ++ decimal n ≡ label x
-  label_error e = sym (append-nil (codes "error " ++ decimal n)) ∙ (λ j. because (sym (eq-eqb k 0 e) j) (name_of k)) ∙ ap label (sym is)
-
-  pub label_expected : (ns : List ℕ) → ns ≡ name_of k → (k ≡ 0 → ⊥) → because false ns ≡ label x
-  label_expected ns named ne = (λ j. because (sym (ne_eqb k 0 ne) j) (named j)) ∙ ap label (sym is)
+use Rattle.reader.specs.Tree.{indent, line, depth_after, lines}
 
 -- ---- indents
 
@@ -46,24 +23,6 @@ indent_more ts us vs d h g =
     g ∙ ap (λ (xs : List ℕ). xs ++ codes "    ") h ∙ append_assoc ts (indent d) (codes "    ") ∙ ap (λ (xs : List ℕ). ts ++ xs) (indent_push d ∙ ap indent (sym (add-one d)))
 
 -- ---- lines
-
--- what is written where the last write is accepted
-pub written : {E : Type 0} (r : Result (Unit {0}) E) (s a b : List ℕ) → s ≡ cond (is_ok r) a b → IfOk r (λ _. s ≡ a)
-written (Ok x) s a b h = h
-written (Err e) s a b h = tt
-
-labels_line : (x : Item) (d : ℕ) → (x ≡ Leave → ⊥) → indent d ++ label x ++ codes "\n" ≡ line d x
-labels_line (Enter k) d ne = refl
-labels_line Leave d ne = absurd (ne refl)
-labels_line (Token k w) d ne = refl
-labels_line (Error n k) d ne = refl
-
--- an indent, then a label, then the end of the line
-pub line_more : (x : Item) (d : ℕ) (ts us vs ls : List ℕ) → (x ≡ Leave → ⊥) → us ≡ ts ++ indent d → ls ≡ label x → vs ≡ us ++ ls → vs ++ codes "\n" ≡ ts ++ line d x
-line_more x d ts us vs ls ne h l g =
-    ap (λ (bs : List ℕ). bs ++ codes "\n") (g ∙ (λ j. h j ++ l j) ∙ append_assoc ts (indent d) (label x))
-    ∙ append_assoc ts (indent d ++ label x) (codes "\n")
-    ∙ ap (λ (bs : List ℕ). ts ++ bs) (labels_line x d ne)
 
 pub depth_low : (d : ℕ) (x : Item) → depth_after d x ≤ d + 1
 depth_low d (Enter k) = omega arith

@@ -5,7 +5,7 @@ ghost use Rattle.sinks.specs.Sink.{amounts};
 ghost use Rattle.reader.specs.List.{max_bytes, TakesAll, Lists};
 
 use event_log::event::Record;
-use file::read_file;
+use file::{Columns, read_file};
 use grammar::reading::Reading;
 use refusals::{Layer, Refusal};
 use sinks::sink::Sink;
@@ -33,12 +33,8 @@ fn too_long(bytes: &[u8]) -> bool
 fn take_all(reading: &mut Reading) -> Result<(), Refusal>
     ensures { TakesAll reading.old.parser reading.new.parser result }
 {
-    loop {
-        let taken = reading.skip()?;
-        if taken.tokens == 0 {
-            return Ok(());
-        }
-    }
+    while reading.skip()?.tokens > 0 {}
+    Ok(())
 }
 
 /// Tells a sink what the file holds.
@@ -52,13 +48,13 @@ pub fn list<S: Sink>(bytes: &[u8], sink: &mut S) -> Result<(), Refusal>
     let mut contextual = [0; TOKENS];
     let mut joint = [0; WORDS];
     let mut editions = [0; TOKENS];
-    let count = read_file(
-        bytes,
-        &mut kinds,
-        &mut contextual,
-        &mut joint,
-        &mut editions,
-    )?;
+    let columns = Columns {
+        kinds: &mut kinds,
+        contextual: &mut contextual,
+        joint: &mut joint,
+        editions: &mut editions,
+    };
+    let count = read_file(bytes, columns)?;
     let input = Input {
         kinds: &kinds[0..count],
         contextual: &contextual[0..count],

@@ -3,9 +3,9 @@
 
 ghost use Rattle.std.specs.Prelude.{◌≤◌, length, IfOk};
 
+use crate::failure::Failure;
 use crate::list::{MAX_BYTES, RECORDS, list};
 use crate::tree::tree;
-use refusals::Refusal;
 use sinks::listing::Listing;
 use sinks::table::NodeTable;
 use sinks::table::entry::Entry;
@@ -14,6 +14,7 @@ use std::io::{Read, Write};
 use std::process::ExitCode;
 use std::{env, io};
 
+mod failure;
 mod kind_names;
 mod list;
 #[cfg(test)]
@@ -55,16 +56,11 @@ struct Arguments {
 
 fn read_arguments(rt: &HostRuntime) -> io::Result<Arguments> {
     let mut words = env::args(rt)?;
-    match words.nth(1) {
-        Some(word) if word.as_str() == "--tree" => Ok(Arguments {
-            form: Form::Tree,
-            path: words.next(),
-        }),
-        path => Ok(Arguments {
-            form: Form::Listing,
-            path,
-        }),
-    }
+    let (form, path) = match words.nth(1) {
+        Some(word) if word.as_str() == "--tree" => (Form::Tree, words.next()),
+        path => (Form::Listing, path),
+    };
+    Ok(Arguments { form, path })
 }
 
 fn read_input(rt: &HostRuntime, path: Option<String>, buffer: &mut [u8]) -> io::Result<usize>
@@ -76,60 +72,39 @@ fn read_input(rt: &HostRuntime, path: Option<String>, buffer: &mut [u8]) -> io::
     }
 }
 
-fn refuse(rt: &HostRuntime, refusal: Refusal) -> anyhow::Result<ExitCode> {
-    let number = refusal.number();
-    let place = refusal.place();
-    println!(rt; "refused {number} {place}")?;
-    Ok(ExitCode::FAILURE)
-}
-
-fn print_listing(rt: &HostRuntime, file: &[u8]) -> anyhow::Result<ExitCode> {
+fn print_listing(rt: &HostRuntime, file: &[u8]) -> Result<(), Failure> {
     let mut buffer = [0; LISTING];
     let mut listing = Listing::new(&mut buffer);
-    match list(file, &mut listing) {
-        Ok(()) => {
-            rt.stdout().write_all(listing.bytes())?;
-            Ok(ExitCode::SUCCESS)
-        }
-        Err(refusal) => refuse(rt, refusal),
-    }
+    list(file, &mut listing)?;
+    rt.stdout().write_all(listing.bytes())?;
+    Ok(())
 }
 
-fn print_tree(rt: &HostRuntime, file: &[u8]) -> anyhow::Result<ExitCode> {
+fn print_tree(rt: &HostRuntime, file: &[u8]) -> Result<(), Failure> {
     let mut memory = vec![in rt.alloc(); Entry::NONE; RECORDS]?;
     let mut table = NodeTable::new(memory.as_mut_slice());
-    match list(file, &mut table) {
-        Ok(()) => {
-            rt.print(tree(rt.alloc(), table.entries())?)?;
-            Ok(ExitCode::SUCCESS)
-        }
-        Err(refusal) => refuse(rt, refusal),
-    }
+    list(file, &mut table)?;
+    rt.print(tree(rt.alloc(), table.entries())?)?;
+    Ok(())
 }
 
-/// Says why nothing could be read.
-fn unread(rt: &HostRuntime, error: io::Error) -> anyhow::Result<ExitCode> {
-    eprintln!(rt; "reader: {error}")?;
-    Ok(ExitCode::FAILURE)
-}
-
-fn run(rt: &HostRuntime) -> anyhow::Result<ExitCode> {
-    let Arguments { form, path } = match read_arguments(rt) {
-        Ok(arguments) => arguments,
-        Err(error) => return unread(rt, error),
-    };
+fn run(rt: &HostRuntime) -> Result<(), Failure> {
+    let Arguments { form, path } = read_arguments(rt).map_err(Failure::Unread)?;
     // One byte more than the longest file tells that a file is too long.
     let mut bytes = [0; MAX_BYTES + 1];
-    let len = match read_input(rt, path, &mut bytes) {
-        Ok(len) => len,
-        Err(error) => return unread(rt, error),
-    };
+    let len = read_input(rt, path, &mut bytes).map_err(Failure::Unread)?;
     match form {
-        Form::Listing => print_listing(rt, &bytes[0..len]),
-        Form::Tree => print_tree(rt, &bytes[0..len]),
+        Form::Listing => print_listing(rt, &bytes[..len]),
+        Form::Tree => print_tree(rt, &bytes[..len]),
     }
 }
 
 fn main(rt: HostRuntime) -> anyhow::Result<ExitCode> {
-    run(&rt)
+    match run(&rt) {
+        Ok(()) => return Ok(ExitCode::SUCCESS),
+        Err(Failure::Refused(refusal)) => println!(rt; "{refusal}")?,
+        Err(Failure::Unread(error)) => eprintln!(rt; "reader: {error}")?,
+        Err(Failure::Unprinted(error)) => return Err(error),
+    }
+    Ok(ExitCode::FAILURE)
 }

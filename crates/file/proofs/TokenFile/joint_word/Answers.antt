@@ -1,11 +1,11 @@
 use Rattle.std.proofs.Common.{◌≡◌, ℕ, ◌+◌, ◌*◌, ◌%◌, ◌^◌, refl, arith}
 use Rattle.file.specs.TokenFile.{joint_of, word_of}
 use Rattle.file.proofs.Numbers.{bit_small, word_fits, word_more}
-use Rattle.file.proofs.joint_word.Goals as goal
+use Rattle.file.proofs.TokenFile.joint_word.Goals as goal
 
 -- the bits that the word is made of
 abbrev bits : goal.After-from → ℕ → ℕ
-bits c b = joint_of c.args.bytes.now (c.args.first + b)
+bits c b = joint_of c.args.self.now.bytes.now (64 * c.args.w + b)
 
 -- the word with one bit more
 longer : (c : goal.After-from) → c.loop-b.word + c.from.result * 2 ^ c.loop-b.b % 2 ^ 64 ≡ word_of (bits c) (c.loop-b.b + 1)
