@@ -1,6 +1,8 @@
 -- A token file: what its bits say, when it is refused, and what the columns then hold.
 use Rattle.std.specs.Prelude.{◌≡◌, ℕ, zero, suc, ◌+◌, ◌-◌, ◌*◌, ◌/◌, ◌%◌, ◌^◌, ◌<◌, ◌≤◌, min, cond, ◌||◌, List, ◌++◌, map, length, drop, IfOk, Ok, Err, Result, ◌==◌, nat_lt, slice_index}
 use Rattle.std.specs.List.{range_with_len}
+use Rattle.std.specs.Borrow.{MutBor}
+use Rattle.file.specs.declared.Columns.{Columns as Lent}
 use Rattle.tokens.specs.Limits.{max_tokens}
 use Rattle.refusals.specs.declared.Refusal.TheVariants.{TooManyTokens, FileShort, FileLong, ColumnShort}
 use Rattle.refusals.specs.declared.Refusal.{Refusal}
@@ -97,6 +99,14 @@ pub record Columns : Type 0 where
 
 abbrev pub columns : List ℕ → List ℕ → List ℕ → List ℕ → Columns
 columns ks cs js es = record { kinds = ks; contextual = cs; joint = js; editions = es }
+
+-- the columns that are lent
+abbrev pub lent : Lent → Columns
+lent c = columns c.kinds.now c.contextual.now c.joint.now c.editions.now
+
+-- the columns as a call leaves them, behind the references that were lent
+abbrev pub left : {X : Type 0} → MutBor (List ℕ) × (MutBor (List ℕ) × (MutBor (List ℕ) × (MutBor (List ℕ) × X))) → Columns
+left (ks, (cs, (js, (es, _)))) = columns ks.now cs.now js.now es.now
 
 -- A file is read: the answer is what its bits say of these columns, and each column is then what they say; refused, all are as before.
 pub record Reads (bytes : List ℕ) (before after : Columns) (r : Result ℕ Refusal) : Type 0 where

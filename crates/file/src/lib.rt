@@ -2,7 +2,7 @@
 #![tactic(auto)]
 
 ghost use Rattle.std.specs.Prelude.{◌≡◌, ℕ, ◌+◌, ◌*◌, ◌^◌, ◌<◌, ◌≤◌, ◌↔◌, IsTrue, length, drop, slice_index_or, IfOk, MatchResult};
-ghost use Rattle.file.specs.TokenFile.{bit_at, number_at, token_at, kind_of, contextual_of, joint_of, edition_of, tokens_of, words_for, joint_word, JointBits, columns as columns_of, Reads};
+ghost use Rattle.file.specs.TokenFile.{bit_at, number_at, token_at, kind_of, contextual_of, joint_of, edition_of, tokens_of, words_for, joint_word, JointBits, lent, left, Reads};
 
 use refusals::{Layer, Refusal};
 use tokens::input::MAX_TOKENS;
@@ -164,8 +164,8 @@ impl Columns<'_> {
 /// of word i divided by 64, the lowest bit being 0. A refusal leaves the columns as they are, and what lies past
 /// the last token, or past the last word of joint bits, always stays.
 pub fn read_file(bytes: &[u8], columns: Columns<'_>) -> Result<usize, Refusal>
-    ensures reads { Reads bytes.now (columns_of columns.entry.kinds.now columns.entry.contextual.now columns.entry.joint.now columns.entry.editions.now) (columns_of columns.exit.0.now columns.exit.1.0.now columns.exit.1.1.0.now columns.exit.1.1.1.0.now) result }
-    ensures joint_bits { IfOk result (λ n. JointBits bytes.now n columns.exit.1.1.0.now) }
+    ensures reads { Reads bytes.now (lent columns.entry) (left columns.exit) result }
+    ensures joint_bits { IfOk result (λ n. JointBits bytes.now n (left columns.exit).joint) }
 {
     let file = TokenFile::open(bytes)?;
     let count = file.count;
