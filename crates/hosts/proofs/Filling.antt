@@ -11,7 +11,7 @@ use Rattle.tokens.specs.declared.rows.Hook.{Hook}
 use Rattle.tokens.specs.declared.rows.Hook.TheVariants.{Expr, BlockExpr, Literal, ExprBlockContents, Meta, Pattern, PatternSingle}
 use Rattle.tokens.specs.declared.rows.Answer.{Answer}
 use Rattle.tokens.specs.declared.rows.Row.{Row}
-use Rattle.tokens.specs.Islands.{answer_of, every_hook, lawful_answer, lawful_row}
+use Rattle.tokens.specs.Islands.{answer_of, lawful_answer, lawful_row}
 use Rattle.grammar.specs.Verdict.{first_of, when, verdict, row_count_fault}
 use Rattle.hosts.specs.Host.{Columns, columns}
 use Rattle.hosts.specs.Fill.{fill_verdict, row_of, Fills}
@@ -60,7 +60,6 @@ module _ (i : Input) (rows : ℕ) where
 
 -- a row of lawful answers
 pub row_lawful : (ks : List ℕ) (p : ℕ) (r : Row) → ((h : Hook) → lawful_answer ks p h (answer_of r h) ≡ true) → lawful_row ks p r ≡ true
-unfolding every_hook
 row_lawful ks p r f =
     and_from _ _ (f Expr) (and_from _ _ (f BlockExpr) (and_from _ _ (f Literal) (and_from _ _ (f ExprBlockContents)
     (and_from _ _ (f Meta) (and_from _ _ (f Pattern) (and_from _ _ (f PatternSingle) refl))))))
