@@ -67,9 +67,11 @@ fn bench(rt: &HostRuntime, length: usize, timed: bool) -> Result<(), Failure> {
 }
 
 fn is_timed(rt: &HostRuntime) -> io::Result<bool> {
-    Ok(env::args(rt)?
-        .nth(1)
-        .is_some_and(|word| word.as_str() == "time"))
+    Ok(
+        env::args(rt)?
+            .nth(1)
+            .is_some_and(|word| word.as_str() == "time"),
+    )
 }
 
 fn run(rt: &HostRuntime) -> Result<(), Failure> {
