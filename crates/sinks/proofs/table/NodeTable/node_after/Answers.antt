@@ -1,21 +1,23 @@
-use Rattle.std.proofs.Common.{◌≡◌, ℕ, ◌-◌, ◌<◌, [], ◌∷◌, ◌++◌, length, sym, ap, ◌∙◌, ⊎_elim, arith, rules}
+use Rattle.std.proofs.Common.{◌≡◌, ℕ, ◌-◌, ◌<◌, [], ◌∷◌, ◌++◌, length, get_or, sym, ap, ◌∙◌, ⊎_elim, arith, rules}
 use Rattle.event_log.specs.declared.item.Item.{Item}
 use Rattle.event_log.specs.declared.item.Item.TheVariants.{Enter}
 use Rattle.sinks.specs.declared.table.NodeTable.{NodeTable}
 use Rattle.sinks.specs.declared.table.entry.Entry.{Entry}
 use Rattle.sinks.specs.Nodes.{innermost, open_after}
 use Rattle.sinks.specs.Table.{items_of}
-use Rattle.sinks.proofs.Tables.{node_within, after_enter, after_leave, after_leave_none, after_token, after_error}
+use Rattle.sinks.proofs.Tables.{node_within, after_enter, after_leave, after_leave_none, after_token, after_error, long}
 use Rattle.sinks.proofs.table.NodeTable.node_after.Goals as goal
 
-pub offset_bounds-self-self : goal.offset_bounds-self-self
-offset_bounds-self-self c =
+pub offset_bounds-entries-self : goal.offset_bounds-entries-self
+offset_bounds-entries-self c =
     let s = c.args.self.now in
-    let h : s.node - 1 < length s.memory.now = omega (arith, node_within s c.if-self-gt0.true, c.requires) in
+    let h : s.node - 1 < length c.as_slice-entries.result.now = omega (arith, node_within s c.if-self-gt0.true, long s, ap length c.as_slice-entries.ensures) in
     search rules
 
-pub bounds-self-self : goal.bounds-self-self
-bounds-self-self c = omega (arith, node_within c.args.self.now c.if-self-gt0.true, c.requires)
+pub bounds-entries-self : goal.bounds-entries-self
+bounds-entries-self c =
+    let s = c.args.self.now in
+    omega (arith, node_within s c.if-self-gt0.true, long s, ap length c.as_slice-entries.ensures)
 
 -- what stands for an entry past the end
 abbrev none : Entry
@@ -26,10 +28,10 @@ by : (s : NodeTable) (x y : Item) (n : ℕ) → x ≡ y → n ≡ innermost (ope
 by s x y n is h = h ∙ ap (λ (z : Item). innermost (open_after (items_of s ++ z ∷ []))) (sym is)
 
 pub returns-in-Enter : goal.returns-in-Enter
-returns-in-Enter c = omega (arith, by c.args.self.now _ _ _ c.in-Enter.is (after_enter c.args.self.now c.in-Enter.kind))
+returns-in-Enter c = omega (arith, ap length c.as_slice-entries.ensures, long c.args.self.now, by c.args.self.now _ _ _ c.in-Enter.is (after_enter c.args.self.now c.in-Enter.kind))
 
 pub returns-in-Leave : goal.returns-in-Leave
-returns-in-Leave c = omega (arith, by c.args.self.now _ _ _ c.in-Leave.is (after_leave c.args.self.now none c.if-self-gt0.true))
+returns-in-Leave c = ap (λ es. (get_or es (c.args.self.now.node - 1) none).node) c.as_slice-entries.ensures ∙ by c.args.self.now _ _ _ c.in-Leave.is (after_leave c.args.self.now none c.if-self-gt0.true)
 
 pub returns-in-Leave-2 : goal.returns-in-Leave-2
 returns-in-Leave-2 c = omega (arith, by c.args.self.now _ _ _ c.in-Leave-2.is (after_leave_none c.args.self.now (omega (arith, c.if-self-gt0.false))))
