@@ -1,6 +1,6 @@
 -- A node table: the node that follows each item, and the entry that is written for it.
 use Rattle.std.proofs.Common.{◌≡◌, ℕ, ◌+◌, ◌-◌, ◌<◌, ◌≤◌, List, [], ◌∷◌, ◌++◌, length, get_or, sym, ap, ◌∙◌, arith}
-use Rattle.std.proofs.lemmas.List.{length-map, length-take-le, get_or-map, map-append}
+use Rattle.std.proofs.lemmas.List.{length-map, get_or-map, map-append}
 use Rattle.event_log.specs.declared.item.Item.{Item}
 use Rattle.event_log.specs.declared.item.Item.TheVariants.{Enter, Leave, Token, Error}
 use Rattle.sinks.specs.declared.table.NodeTable.{NodeTable}
@@ -11,36 +11,32 @@ use Rattle.sinks.specs.Table.{items_of}
 use Rattle.sinks.proofs.Nodes.{open_push, around_push, closes, closes_none}
 
 module _ (s : NodeTable) where
-  pub long : length (stored s.entries) ≡ s.entries.len
-  long = length-take-le s.entries.len s.entries.memory.now s.entries.within
-
-  count : length (items_of s) ≡ s.entries.len
-  count = length-map (stored s.entries) (λ (e : Entry). e.item) ∙ long
-
-  -- ---- the node that what follows an item stands in
-
   abbrev NodeAfter : Item → ℕ → Type 0
   NodeAfter x n = n ≡ innermost (open_after (items_of s ++ x ∷ []))
 
-  pub after_enter : (k : ℕ) → NodeAfter (Enter k) (s.entries.len + 1)
-  after_enter k = sym (ap innermost (open_push (items_of s) (Enter k)) ∙ ap (λ (n : ℕ). n + 1) count)
+  -- ---- the node that what follows an item stands in
 
-  -- an open node has its enter among the entries
-  pub node_within : 0 < s.node → s.node ≤ s.entries.len
-  node_within lt =
-      let c = closes (items_of s) (rw s.inside at lt) in
-      omega (arith, c.0, s.inside, ap length s.kept, length-map (stored s.entries) (λ (e : Entry). e.node), long)
+  module _ (es : List Entry) (shown : es ≡ stored s.entries) where
+    pub after_enter : (k : ℕ) → NodeAfter (Enter k) (length es + 1)
+    after_enter k =
+        sym (ap innermost (open_push (items_of s) (Enter k)) ∙ ap (λ (n : ℕ). n + 1) (length-map (stored s.entries) (λ (e : Entry). e.item) ∙ sym (ap length shown)))
 
-  pub after_leave : (d : Entry) → 0 < s.node → NodeAfter Leave (get_or (stored s.entries) (s.node - 1) d).node
-  after_leave d lt =
-      let i = s.node - 1 in
-      let within = node_within lt in
-      let c = closes (items_of s) (rw s.inside at lt) in
-      sym (get_or-map (λ (e : Entry). e.node) (stored s.entries) i d 0 (omega (arith, long)))
-      ∙ ap (λ (ns : List ℕ). get_or ns i 0) s.kept
-      ∙ ap (λ (n : ℕ). get_or (around (items_of s)) (n - 1) 0) s.inside
-      ∙ c.1
-      ∙ sym (ap innermost (open_push (items_of s) Leave))
+    -- an open node has its enter among the entries
+    pub node_within : 0 < s.node → s.node - 1 < length es
+    node_within lt =
+        let c = closes (items_of s) (rw s.inside at lt) in
+        omega (arith, c.0, s.inside, ap length s.kept, length-map (stored s.entries) (λ (e : Entry). e.node), ap length shown)
+
+    pub after_leave : (d : Entry) → 0 < s.node → NodeAfter Leave (get_or es (s.node - 1) d).node
+    after_leave d lt =
+        let i = s.node - 1 in
+        let c = closes (items_of s) (rw s.inside at lt) in
+        sym (get_or-map (λ (e : Entry). e.node) es i d 0 (node_within lt))
+        ∙ ap (λ (fs : List Entry). get_or (nodes_in fs) i 0) shown
+        ∙ ap (λ (ns : List ℕ). get_or ns i 0) s.kept
+        ∙ ap (λ (n : ℕ). get_or (around (items_of s)) (n - 1) 0) s.inside
+        ∙ c.1
+        ∙ sym (ap innermost (open_push (items_of s) Leave))
 
   pub after_leave_none : s.node ≤ 0 → NodeAfter Leave 0
   after_leave_none le =

@@ -24,6 +24,7 @@ impl<'a, T: Copy> LentVec<'a, T> {
         LentVec { memory, len: 0 }
     }
 
+    /// What is kept, in order.
     pub fn as_slice(&self) -> &[T]
         ensures { result.now ≡ stored self.now }
     {
