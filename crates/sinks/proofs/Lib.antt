@@ -4,9 +4,8 @@ pub mod ByIndex
 pub mod Chains
 -- items that a sink is told, one after the other
 pub mod Taking
--- the listing's lines, and how they are written
+-- the listing's lines
 pub mod Lines
-pub mod Over
 -- the marks of a walk
 pub mod Marks
 -- what records tell, one by one and all together

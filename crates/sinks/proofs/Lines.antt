@@ -1,15 +1,11 @@
 -- What reading a line gives: its item, after what was read before.
 use Rattle.std.proofs.Common.{◌≡◌, ℕ, ◌+◌, ◌*◌, ◌/◌, ◌%◌, ◌^◌, ◌<◌, List, [], ◌∷◌, ◌++◌, decimal, fold, sym, refl, ap, ◌∙◌, append_assoc, append-nil, arith}
 use Rattle.std.proofs.lemmas.Fmt.{decimal_by_steps}
-use Rattle.std.proofs.lemmas.List.Sums.{fold_push}
+use Rattle.std.proofs.lemmas.List.Sums.{fold-append, fold_push}
 use Rattle.std.proofs.lemmas.Bool.Decides.{nat_tests}
 use Rattle.event_log.specs.declared.item.Item.{Item}
 use Rattle.event_log.specs.declared.item.Item.TheVariants.{Enter, Leave, Token, Error}
 use Rattle.sinks.specs.Lines.{line, listing, spaced, newline, Small, Reading, so_far, tagged, is_digit, step, read}
-
-pub folded_append : {A B : Type 0} (f : B → A → B) (b : B) (xs ys : List A) → fold f b (xs ++ ys) ≡ fold f (fold f b xs) ys
-folded_append f b [] ys = refl
-folded_append f b (x ∷ xs) ys = folded_append f (f b x) xs ys
 
 -- a digit goes on with the number
 step_digit : (is : List Item) (t m n d : ℕ) → d < 10 → step (so_far is t m n) (48 + d) ≡ so_far is t m (10 * n + d)
@@ -31,7 +27,7 @@ reads_decimal is t m n h =
 reads_one : (is : List Item) (t m n : ℕ) → n < 2 ^ 64 → (fold step (so_far is t m 0) (decimal n ++ newline)).items ≡ is ++ tagged t m n ∷ []
 unfolding step
 reads_one is t m n h =
-    ap (λ (r : Reading). r.items) (folded_append step (so_far is t m 0) (decimal n) newline)
+    ap (λ (r : Reading). r.items) (fold-append step (so_far is t m 0) (decimal n) newline)
     ∙ ap (λ (r : Reading). (fold step r newline).items) (reads_decimal is t m n h)
 
 reads_two : (is : List Item) (t l m n : ℕ) → m < 2 ^ 64 → n < 2 ^ 64
@@ -40,7 +36,7 @@ unfolding step
 reads_two is t l m n g h =
     ap (λ (r : Reading). r.items)
     (ap (fold step (so_far is t l 0)) (append_assoc (decimal m) (spaced n) newline)
-    ∙ folded_append step (so_far is t l 0) (decimal m) (spaced n ++ newline))
+    ∙ fold-append step (so_far is t l 0) (decimal m) (spaced n ++ newline))
     ∙ ap (λ (r : Reading). (fold step r (spaced n ++ newline)).items) (reads_decimal is t l m g)
     ∙ reads_one is t m n h
 
@@ -51,14 +47,20 @@ reads_line is t m n Leave h = refl
 reads_line is t m n (Token k w) h = reads_two is 61 n k w (omega arith) (omega arith)
 reads_line is t m n (Error e k) h = reads_two is 33 n e k (omega arith) (omega arith)
 
-pub read_more : (bs : List ℕ) (x : Item) → Small x → read (bs ++ line x) ≡ read bs ++ x ∷ []
-unfolding read
-read_more bs x h =
-    let start = so_far [] 0 0 0 in
-    let r = fold step start bs in
-    ap (λ (r : Reading). r.items) (folded_append step start bs (line x)) ∙ reads_line r.items r.tag r.first r.second x h
-
-pub listing_more : (is : List Item) (x : Item) → listing (is ++ x ∷ []) ≡ listing is ++ line x
+listing_more : (is : List Item) (x : Item) → listing (is ++ x ∷ []) ≡ listing is ++ line x
 unfolding listing
 listing_more [] x = append-nil (line x)
 listing_more (y ∷ is) x = ap (λ (bs : List ℕ). line y ++ bs) (listing_more is x) ∙ sym (append_assoc (line y) (listing is) (line x))
+
+-- the line of an item after these
+module _ (bs cs : List ℕ) (x : Item) (small : Small x) (new : cs ≡ bs ++ line x) where
+  pub read_after : read cs ≡ read bs ++ x ∷ []
+  unfolding read
+  read_after =
+      let start = so_far [] 0 0 0 in
+      let r = fold step start bs in
+      ap read new ∙ ap (λ (r : Reading). r.items) (fold-append step start bs (line x)) ∙ reads_line r.items r.tag r.first r.second x small
+
+  pub listed_after : bs ≡ listing (read bs) → cs ≡ listing (read cs)
+  listed_after before =
+      new ∙ ap (λ (ds : List ℕ). ds ++ line x) before ∙ sym (listing_more (read bs) x) ∙ ap listing (sym read_after)

@@ -1,47 +1,42 @@
 -- A node table: the node that follows each item, and the entry that is written for it.
-use Rattle.std.proofs.Common.{◌≡◌, ℕ, ◌+◌, ◌-◌, ◌<◌, ◌≤◌, List, [], ◌∷◌, ◌++◌, length, get_or, take, set, sym, ap, ◌∙◌, arith}
-use Rattle.std.proofs.lemmas.List.{length-map, length-take-le, length-set, take_more_set, get_or-take, get_or-map, map-append}
+use Rattle.std.proofs.Common.{◌≡◌, ℕ, ◌+◌, ◌-◌, ◌<◌, ◌≤◌, List, [], ◌∷◌, ◌++◌, length, get_or, sym, ap, ◌∙◌, arith}
+use Rattle.std.proofs.lemmas.List.{length-map, get_or-map, map-append}
 use Rattle.event_log.specs.declared.item.Item.{Item}
 use Rattle.event_log.specs.declared.item.Item.TheVariants.{Enter, Leave, Token, Error}
 use Rattle.sinks.specs.declared.table.NodeTable.{NodeTable}
 use Rattle.sinks.specs.declared.table.entry.Entry.{Entry}
 use Rattle.sinks.specs.Nodes.{items_in, nodes_in, innermost, open_after, around}
+use Rattle.sinks.specs.Lent.{stored}
 use Rattle.sinks.specs.Table.{items_of}
 use Rattle.sinks.proofs.Nodes.{open_push, around_push, closes, closes_none}
 
 module _ (s : NodeTable) where
-  long : length (take s.len s.memory.now) ≡ s.len
-  long = length-take-le s.len s.memory.now s.within
-
-  count : length (items_of s) ≡ s.len
-  count = length-map (take s.len s.memory.now) (λ (e : Entry). e.item) ∙ long
-
-  -- ---- the node that what follows an item stands in
-
   abbrev NodeAfter : Item → ℕ → Type 0
   NodeAfter x n = n ≡ innermost (open_after (items_of s ++ x ∷ []))
 
-  pub after_enter : (k : ℕ) → NodeAfter (Enter k) (s.len + 1)
-  after_enter k = sym (ap innermost (open_push (items_of s) (Enter k)) ∙ ap (λ (n : ℕ). n + 1) count)
+  -- ---- the node that what follows an item stands in
 
-  -- an open node has its enter among the entries
-  pub node_within : 0 < s.node → s.node ≤ s.len
-  node_within lt =
-      let c = closes (items_of s) (rw s.inside at lt) in
-      omega (arith, c.0, s.inside, ap length s.kept, length-map (take s.len s.memory.now) (λ (e : Entry). e.node), long)
+  module _ (es : List Entry) (shown : es ≡ stored s.entries) where
+    pub after_enter : (k : ℕ) → NodeAfter (Enter k) (length es + 1)
+    after_enter k =
+        sym (ap innermost (open_push (items_of s) (Enter k)) ∙ ap (λ (n : ℕ). n + 1) (length-map (stored s.entries) (λ (e : Entry). e.item) ∙ sym (ap length shown)))
 
-  pub after_leave : (d : Entry) → 0 < s.node → NodeAfter Leave (get_or s.memory.now (s.node - 1) d).node
-  after_leave d lt =
-      let i = s.node - 1 in
-      let es = take s.len s.memory.now in
-      let within = node_within lt in
-      let c = closes (items_of s) (rw s.inside at lt) in
-      ap (λ (e : Entry). e.node) (sym (get_or-take s.len s.memory.now i d (omega arith)))
-      ∙ sym (get_or-map (λ (e : Entry). e.node) es i d 0 (omega (arith, long)))
-      ∙ ap (λ (ns : List ℕ). get_or ns i 0) s.kept
-      ∙ ap (λ (n : ℕ). get_or (around (items_of s)) (n - 1) 0) s.inside
-      ∙ c.1
-      ∙ sym (ap innermost (open_push (items_of s) Leave))
+    -- an open node has its enter among the entries
+    pub node_within : 0 < s.node → s.node - 1 < length es
+    node_within lt =
+        let c = closes (items_of s) (rw s.inside at lt) in
+        omega (arith, c.0, s.inside, ap length s.kept, length-map (stored s.entries) (λ (e : Entry). e.node), ap length shown)
+
+    pub after_leave : (d : Entry) → 0 < s.node → NodeAfter Leave (get_or es (s.node - 1) d).node
+    after_leave d lt =
+        let i = s.node - 1 in
+        let c = closes (items_of s) (rw s.inside at lt) in
+        sym (get_or-map (λ (e : Entry). e.node) es i d 0 (node_within lt))
+        ∙ ap (λ (fs : List Entry). get_or (nodes_in fs) i 0) shown
+        ∙ ap (λ (ns : List ℕ). get_or ns i 0) s.kept
+        ∙ ap (λ (n : ℕ). get_or (around (items_of s)) (n - 1) 0) s.inside
+        ∙ c.1
+        ∙ sym (ap innermost (open_push (items_of s) Leave))
 
   pub after_leave_none : s.node ≤ 0 → NodeAfter Leave 0
   after_leave_none le =
@@ -53,26 +48,17 @@ module _ (s : NodeTable) where
   pub after_error : (m k : ℕ) → NodeAfter (Error m k) s.node
   after_error m k = s.inside ∙ sym (ap innermost (open_push (items_of s) (Error m k)))
 
-  -- ---- the entry of an item is written
+  -- ---- the entry of an item after those that are kept
 
-  module _ (x : Item) (room : s.len < length s.memory.now) where
-    abbrev pub written : List Entry
-    written = set s.memory.now s.len (record { item = x; node = s.node })
+  module _ (x : Item) (es : List Entry) (new : es ≡ stored s.entries ++ record { item = x; node = s.node } ∷ []) where
+    pub items_after : items_in es ≡ items_of s ++ x ∷ []
+    items_after = ap items_in new ∙ map-append (λ (e : Entry). e.item) (stored s.entries) (record { item = x; node = s.node } ∷ [])
 
-    shown : take (s.len + 1) written ≡ take s.len s.memory.now ++ record { item = x; node = s.node } ∷ []
-    shown = take_more_set s.memory.now s.len (record { item = x; node = s.node }) room
-
-    pub items_written : items_in (take (s.len + 1) written) ≡ items_of s ++ x ∷ []
-    items_written = ap items_in shown ∙ map-append (λ (e : Entry). e.item) (take s.len s.memory.now) (record { item = x; node = s.node } ∷ [])
-
-    pub kept_written : nodes_in (take (s.len + 1) written) ≡ around (items_in (take (s.len + 1) written))
-    kept_written =
-        ap nodes_in shown ∙ map-append (λ (e : Entry). e.node) (take s.len s.memory.now) (record { item = x; node = s.node } ∷ [])
+    pub kept_after : nodes_in es ≡ around (items_in es)
+    kept_after =
+        ap nodes_in new ∙ map-append (λ (e : Entry). e.node) (stored s.entries) (record { item = x; node = s.node } ∷ [])
         ∙ (λ j. s.kept j ++ s.inside j ∷ [])
-        ∙ sym (around_push (items_of s) x) ∙ ap around (sym items_written)
+        ∙ sym (around_push (items_of s) x) ∙ ap around (sym items_after)
 
-    pub inside_written : {n : ℕ} → NodeAfter x n → n ≡ innermost (open_after (items_in (take (s.len + 1) written)))
-    inside_written h = h ∙ ap (λ (xs : List Item). innermost (open_after xs)) (sym items_written)
-
-    pub within_written : s.len + 1 ≤ length written
-    within_written = rw length-set (omega arith)
+    pub inside_after : {n : ℕ} → NodeAfter x n → n ≡ innermost (open_after (items_in es))
+    inside_after h = h ∙ ap (λ (xs : List Item). innermost (open_after xs)) (sym items_after)
