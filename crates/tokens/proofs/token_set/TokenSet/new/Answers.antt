@@ -4,14 +4,6 @@ use Rattle.tokens.proofs.Members.{Collects, collects_none, takes_in, leaves_out}
 use Rattle.tokens.proofs.token_set.TokenSet.new.Goals as goal
 use Rattle.tokens.proofs.token_set.TokenSet.new.Goals.{then-kind-le-SHEBANG, else-kind-le-SHEBANG}
 
-pub invariant_of-result : goal.invariant_of-result
-invariant_of-result c = record { tokens = c.loop-kind.invariant.only }
-
-pub returns : goal.returns
-returns c =
-    (subst (λ (xs : List ℕ). Collects c.loop-kind.words xs)
-    (take_all c.loop-kind.kind-index c.args.kinds.now c.loop-kind-test.false) c.loop-kind.invariant).members
-
 pub loop-kind-init : goal.loop-kind-init
 loop-kind-init c = collects_none
 
