@@ -1,7 +1,6 @@
 //! From the bytes of a token file to what a sink is told of it.
 
 ghost use Rattle.std.specs.Prelude.{◌≡◌, length, nat_lt};
-ghost use Rattle.sinks.specs.Sink.{amounts};
 ghost use Rattle.reader.specs.List.{max_bytes, TakesAll, Lists};
 
 use event_log::event::Record;
@@ -39,7 +38,7 @@ fn take_all(reading: &mut Reading) -> Result<(), Refusal>
 
 /// Tells a sink what the file holds.
 pub fn list<S: Sink>(bytes: &[u8], sink: &mut S) -> Result<(), Refusal>
-    ensures { Lists (amounts S.size) bytes.now (S.heard sink.old) (S.heard sink.new) result }
+    ensures { Lists S.size bytes.now (S.heard sink.old) (S.heard sink.new) result }
 {
     if too_long(bytes) {
         return Err(Refusal::TooManyTokens { layer: Layer::File });

@@ -5,7 +5,7 @@ use Rattle.event_log.specs.declared.item.Item.{Item}
 use Rattle.sinks.specs.declared.sink.Full.{Full}
 use Rattle.sinks.specs.declared.listing.Listing.{Listing}
 use Rattle.event_log.specs.declared.item.Item.TheVariants.{Enter, Leave, Token, Error}
-use Rattle.sinks.specs.Sink.{Size, Heard}
+use Rattle.sinks.specs.Sink.{Heard, TakesRoom}
 use Rattle.sinks.specs.Lent.{stored, room, over}
 use Rattle.sinks.specs.Lines.{line, read}
 
@@ -23,14 +23,11 @@ abbrev pub bytes_for : Item → ℕ
 bytes_for x = length (line x)
 
 -- of which the one that ends it is one
-abbrev some_bytes : (x : Item) → 1 ≤ bytes_for x
+pub some_bytes : TakesRoom bytes_for
 some_bytes (Enter k) = suc-le-suc zero-le
 some_bytes Leave = suc-le-suc zero-le
 some_bytes (Token k w) = suc-le-suc zero-le
 some_bytes (Error n k) = suc-le-suc zero-le
-
-abbrev pub size_of : Item → Size
-size_of x = record { amount = bytes_for x; least = some_bytes x }
 
 -- The line of the item follows what was written, and from there on each byte is as before; or it is longer than the room, and everything is kept.
 pub data Writes (x : Item) (s t : Listing) : Result (Unit {0}) Full → Type 0 where

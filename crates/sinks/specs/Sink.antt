@@ -3,13 +3,9 @@ use Rattle.std.specs.Prelude.{◌≡◌, ℕ, ◌+◌, ◌-◌, ◌<◌, ◌≤�
 use Rattle.event_log.specs.declared.item.Item.{Item}
 use Rattle.sinks.specs.declared.sink.Full.{Full}
 
--- How much room an item takes: at least 1.
-pub record Size : Type 0 where
-  pub amount : ℕ
-  pub least : 1 ≤ amount
-
-abbrev pub amounts : (Item → Size) → Item → ℕ
-amounts size x = (size x).amount
+-- each item takes some room
+abbrev pub TakesRoom : (Item → ℕ) → Type 0
+TakesRoom size = (x : Item) → 1 ≤ size x
 
 -- A sink, by its meaning: what it was told so far, and the room that is left.
 pub record Heard : Type 0 where

@@ -5,7 +5,7 @@ use Rattle.event_log.specs.declared.item.Item.{Item}
 use Rattle.sinks.specs.declared.sink.Full.{Full}
 use Rattle.sinks.specs.declared.table.NodeTable.{NodeTable}
 use Rattle.sinks.specs.declared.table.entry.Entry.{Entry}
-use Rattle.sinks.specs.Sink.{Size, Heard}
+use Rattle.sinks.specs.Sink.{Heard, TakesRoom}
 use Rattle.sinks.specs.Lent.{stored, room}
 use Rattle.sinks.specs.Nodes.{items_in, innermost, open_after}
 
@@ -19,8 +19,11 @@ abbrev pub heard_of : NodeTable → Heard
 heard_of s = record { items = items_of s; room = room_of s }
 
 -- every item takes one entry
-abbrev pub size_of : Item → Size
-size_of x = record { amount = 1; least = suc-le-suc zero-le }
+abbrev pub one_entry : Item → ℕ
+one_entry x = 1
+
+pub some_entry : TakesRoom one_entry
+some_entry x = suc-le-suc zero-le
 
 -- the next item, with the node that it stands in
 abbrev pub next_entry : Item → NodeTable → Entry

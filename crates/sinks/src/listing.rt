@@ -44,16 +44,18 @@ impl<'a> Listing<'a> {
 }
 
 impl<'a> Sink for Listing<'a> {
-    ghost use Rattle.sinks.specs.Sink.{amounts, Takes};
-    ghost use Rattle.sinks.specs.Listing.{heard_of, size_of, Writes};
+    ghost use Rattle.sinks.specs.Sink.{Takes};
+    ghost use Rattle.sinks.specs.Listing.{heard_of, bytes_for, some_bytes, Writes};
 
     ghost heard = { heard_of };
 
-    ghost size = { size_of };
+    ghost size = { bytes_for };
+
+    ghost takes_room = { some_bytes };
 
     /// The line is whole before its first byte is written, so a refusal leaves every byte as it is.
     fn put(&mut self, item: Item) -> Result<(), Full>
-        ensures takes { Takes (amounts size_of) item (heard_of self.old) (heard_of self.new) result }
+        ensures takes { Takes bytes_for item (heard_of self.old) (heard_of self.new) result }
         ensures writes { Writes item self.old self.new result }
     {
         let line = line_of(item);

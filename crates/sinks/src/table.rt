@@ -61,16 +61,18 @@ impl<'a> NodeTable<'a> {
 }
 
 impl<'a> Sink for NodeTable<'a> {
-    ghost use Rattle.sinks.specs.Sink.{amounts, Takes};
-    ghost use Rattle.sinks.specs.Table.{heard_of, size_of, Keeps};
+    ghost use Rattle.sinks.specs.Sink.{Takes};
+    ghost use Rattle.sinks.specs.Table.{heard_of, one_entry, some_entry, Keeps};
 
     ghost heard = { heard_of };
 
-    ghost size = { size_of };
+    ghost size = { one_entry };
+
+    ghost takes_room = { some_entry };
 
     /// Takes the same few steps for each item.
     fn put(&mut self, item: Item) -> Result<(), Full>
-        ensures takes { Takes (amounts size_of) item (heard_of self.old) (heard_of self.new) result }
+        ensures takes { Takes one_entry item (heard_of self.old) (heard_of self.new) result }
         ensures keeps { Keeps item self.old self.new result }
     {
         let node = self.node_after(item);

@@ -3,7 +3,6 @@
 ghost use Rattle.std.specs.Prelude.{◌≡◌, ◌≤◌, length, drop, slice_get, Some};
 ghost use Rattle.event_log.specs.Model.{of};
 ghost use Rattle.event_log.specs.Tell.{unused};
-ghost use Rattle.sinks.specs.Sink.{amounts};
 ghost use Rattle.sinks.specs.Walk.{used, TellsRecord, TellsAll, Walks, WalkLaw};
 
 use crate::sink::{Full, Sink};
@@ -20,7 +19,7 @@ mod tests;
 /// Tells the sink all that was recorded. It works with a mark for each record: refused 9 where there are fewer, and nothing is told then.
 /// Refused 10 where the sink is full, at the record reached; what was told before stays told. The marks are zero in the end.
 pub fn walk<S: Sink>(reading: &Reading, marks: &mut [u8], sink: &mut S) -> Result<(), Refusal>
-    ensures told { Walks (amounts S.size) (of reading.now.parser).recs marks.old marks.new (S.heard sink.old) (S.heard sink.new) result }
+    ensures told { Walks S.size (of reading.now.parser).recs marks.old marks.new (S.heard sink.old) (S.heard sink.new) result }
     ensures law { WalkLaw reading.now.parser (S.heard sink.old) (S.heard sink.new) result }
 {
     let records = reading.records();
@@ -29,7 +28,7 @@ pub fn walk<S: Sink>(reading: &Reading, marks: &mut [u8], sink: &mut S) -> Resul
 
 /// Tells the sink these records, whatever made them; the marks and the refusals are those of `walk`.
 pub fn process<S: Sink>(records: &[Record], marks: &mut [u8], sink: &mut S) -> Result<(), Refusal>
-    ensures { Walks (amounts S.size) records.now marks.old marks.new (S.heard sink.old) (S.heard sink.new) result }
+    ensures { Walks S.size records.now marks.old marks.new (S.heard sink.old) (S.heard sink.new) result }
 {
     let count = records.len();
     if marks.len() < count {
@@ -44,7 +43,7 @@ pub fn process<S: Sink>(records: &[Record], marks: &mut [u8], sink: &mut S) -> R
 /// Tells all records; each has a mark, and no start is marked as used yet.
 fn tell<S: Sink>(records: &[Record], marks: &mut [u8], sink: &mut S) -> Result<(), Refusal>
     requires { used (length records.now) marks.old ≡ unused records.now }
-    ensures told { TellsAll (amounts S.size) records.now (S.heard sink.old) (S.heard sink.new) result }
+    ensures told { TellsAll S.size records.now (S.heard sink.old) (S.heard sink.new) result }
     ensures others { drop (length records.now) marks.new ≡ drop (length records.now) marks.old }
 {
     for (at, record) in records.iter().enumerate() {
@@ -63,7 +62,7 @@ fn tell_record<S: Sink>(
 ) -> Result<(), Full>
     requires here { slice_get records.now at ≡ Some «record».now }
     requires marked { length records.now ≤ length marks.old }
-    ensures { TellsRecord (amounts S.size) records.now at marks.old marks.new (S.heard sink.old) (S.heard sink.new) result }
+    ensures { TellsRecord S.size records.now at marks.old marks.new (S.heard sink.old) (S.heard sink.new) result }
 {
     match *record {
         Record::Start { .. } if marks[at] != 0 => Ok(()),

@@ -3,7 +3,7 @@
 ghost use Rattle.std.specs.Prelude.{◌≡◌, ◌<◌, ◌≤◌, true, length, take, drop, IfSome};
 ghost use Rattle.std.specs.Option.{option_map};
 ghost use Rattle.event_log.specs.Tell.{enters};
-ghost use Rattle.sinks.specs.Sink.{amounts, Tells};
+ghost use Rattle.sinks.specs.Sink.{Tells};
 ghost use Rattle.sinks.specs.Walk.{used, is_start, at as record_at, parent_of, chain, mark_chain};
 
 use crate::sink::{Full, Sink};
@@ -71,7 +71,7 @@ impl<'a> Start<'a> {
     pub(super) fn enter_chain<S: Sink>(&self, starts: usize, sink: &mut S) -> Result<(), Full>
         requires some { 0 < starts }
         requires chained { starts ≤ length (chain self.now.records.now self.now.at) }
-        ensures { Tells (amounts S.size) (enters (take starts (chain self.now.records.now self.now.at))) (S.heard sink.old) (S.heard sink.new) result }
+        ensures { Tells S.size (enters (take starts (chain self.now.records.now self.now.at))) (S.heard sink.old) (S.heard sink.new) result }
     {
         if starts == 1 {
             return self.enter(sink);
@@ -95,7 +95,7 @@ impl<'a> Start<'a> {
 
     /// Enters the node, unless it was abandoned.
     fn enter<S: Sink>(&self, sink: &mut S) -> Result<(), Full>
-        ensures { Tells (amounts S.size) (enters (take 1 (chain self.now.records.now self.now.at))) (S.heard sink.old) (S.heard sink.new) result }
+        ensures { Tells S.size (enters (take 1 (chain self.now.records.now self.now.at))) (S.heard sink.old) (S.heard sink.new) result }
     {
         match self.record() {
             Record::Start { kind, .. } if kind != TOMBSTONE => sink.put(Item::Enter { kind }),

@@ -6,9 +6,9 @@ use Rattle.sinks.specs.declared.sink.Full.{Full}
 use Rattle.sinks.specs.Lent.{stored, room, over, Appends}
 use Rattle.sinks.specs.Lent.Appends.{appended, stays}
 use Rattle.sinks.specs.Lines.{line, listing, read, Small}
-use Rattle.sinks.specs.Listing.{heard_of, size_of, Writes}
+use Rattle.sinks.specs.Listing.{heard_of, bytes_for, Writes}
 use Rattle.sinks.specs.Listing.Writes.{wrote, kept}
-use Rattle.sinks.specs.Sink.{amounts, Takes}
+use Rattle.sinks.specs.Sink.{Takes}
 use Rattle.sinks.specs.Sink.Takes.{took, full}
 use Rattle.sinks.proofs.Lines.{read_after, listed_after}
 use Rattle.sinks.proofs.listing.ListingSink.put.Goals as goal
@@ -25,7 +25,7 @@ lists p x small (appended fits memory len new less) = listed_after _ _ x small n
 lists p x small (stays more same) = rw same p.listed
 
 puts : (p t : Listing) {r : Result (Unit {0}) Full} (x : Item) → Small x → Written p t.lines (line x) r
-    → Takes (amounts size_of) x (heard_of p) (heard_of t) r × Writes x p t r
+    → Takes bytes_for x (heard_of p) (heard_of t) r × Writes x p t r
 puts p t x small (appended fits memory len new less) = (took fits (read_after _ _ x small new) less, wrote fits memory len)
 puts p t x small (stays more same) = (
   full more (ap (λ (v : LentVec ℕ). record { items = read (stored v); room = room v }) same),

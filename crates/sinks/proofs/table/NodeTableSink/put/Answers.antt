@@ -7,8 +7,8 @@ use Rattle.sinks.specs.declared.table.entry.Entry.{Entry}
 use Rattle.sinks.specs.Lent.{stored, room, Appends}
 use Rattle.sinks.specs.Lent.Appends.{appended, stays}
 use Rattle.sinks.specs.Nodes.{items_in, nodes_in, around, innermost, open_after}
-use Rattle.sinks.specs.Sink.{amounts, Takes}
-use Rattle.sinks.specs.Table.{items_of, heard_of, size_of, Keeps}
+use Rattle.sinks.specs.Sink.{Takes}
+use Rattle.sinks.specs.Table.{items_of, heard_of, one_entry, Keeps}
 use Rattle.sinks.specs.Sink.Takes.{took, full}
 use Rattle.sinks.specs.Table.Keeps.{wrote, kept}
 use Rattle.sinks.proofs.Tables.{items_after, kept_after, inside_after}
@@ -25,14 +25,14 @@ same : (s : NodeTable) (x : Item) {q : LentVec Entry} {e : Full} → Pushed s x 
 same s x (stays more is) = is
 
 refuses : (s t : NodeTable) (x : Item) {e : Full} (P : Full → Type 0) → Pushed s x t.entries (Err e) → t.node ≡ s.node
-    → (r : Result (Unit {0}) Full) → IsErrAnd r P → Takes (amounts size_of) x (heard_of s) (heard_of t) r × Keeps x s t r
+    → (r : Result (Unit {0}) Full) → IsErrAnd r P → Takes one_entry x (heard_of s) (heard_of t) r × Keeps x s t r
 refuses s t x P h node (Ok a) p = absurd p
 refuses s t x P (stays more is) node (Err e) p = (
   full (omega (arith, more)) (ap (λ (v : LentVec Entry). record { items = items_in (stored v); room = room v }) is),
   kept (omega (arith, more, s.entries.within)) (ap (λ (v : LentVec Entry). v.memory.now) is) (ap (λ (v : LentVec Entry). v.len) is) node,
 )
 
-takes : (s t : NodeTable) (x : Item) {a b : Unit {0}} → Pushed s x t.entries (Ok a) → Takes (amounts size_of) x (heard_of s) (heard_of t) (Ok b) × Keeps x s t (Ok b)
+takes : (s t : NodeTable) (x : Item) {a b : Unit {0}} → Pushed s x t.entries (Ok a) → Takes one_entry x (heard_of s) (heard_of t) (Ok b) × Keeps x s t (Ok b)
 takes s t x (appended fits memory len new less) = (
   took (omega (arith, fits)) (items_after s _ _ new) less,
   wrote (omega (arith, fits)) (memory ∙ ap (λ (n : ℕ). set s.entries.memory.now s.entries.len (record { item = x; node = n })) s.inside) len,
