@@ -1,16 +1,25 @@
-use tokens::syntax_kind::TOMBSTONE;
+use tokens::syntax_kind::{SyntaxKind, TOMBSTONE};
 
 /// One record of the log.
 #[derive(Clone, Copy, PartialEq, Eq, Debug)]
 pub enum Record {
     /// A node begins. `forward` is how many records further on the start of the node lies that precedes this one.
-    Start { kind: u16, forward: Option<u16> },
+    Start {
+        kind: SyntaxKind,
+        forward: Option<u16>,
+    },
     /// The node that was started last, and is not finished yet, ends.
     Finish,
     /// A token of `width` raw tokens.
-    Token { kind: u16, width: u8 },
+    Token {
+        kind: SyntaxKind,
+        width: u8,
+    },
     /// An error by its number, and the kind that was expected, where it names one.
-    Error { number: u8, kind: u16 },
+    Error {
+        number: u8,
+        kind: SyntaxKind,
+    },
 }
 
 /// The number of the error that carries the kind that was expected; all others carry TOMBSTONE.

@@ -1,12 +1,14 @@
+use tokens::syntax_kind::SyntaxKind;
+
 /// What a log tells whoever builds the tree: nodes as they are entered and left, and between them tokens and errors.
 #[derive(Clone, Copy, PartialEq, Eq, Debug)]
 pub enum Item {
     /// A node of this kind begins.
-    Enter { kind: u16 },
+    Enter { kind: SyntaxKind },
     /// The node that was entered last, and is not left yet, ends.
     Leave,
     /// A token of `width` raw tokens.
-    Token { kind: u16, width: u8 },
+    Token { kind: SyntaxKind, width: u8 },
     /// An error by its number, and the kind that was expected, where it names one.
-    Error { number: u8, kind: u16 },
+    Error { number: u8, kind: SyntaxKind },
 }

@@ -1,5 +1,7 @@
 //! Nodes that calls have started or completed.
 
+use tokens::syntax_kind::SyntaxKind;
+
 /// A node that was started: to be completed or abandoned, and never to be let fall.
 pub struct Marker {
     pub(crate) at: usize,
@@ -10,5 +12,5 @@ pub struct Marker {
 pub struct CompletedMarker {
     pub(crate) start: usize,
     pub(crate) end: usize,
-    pub(crate) kind: u16,
+    pub(crate) kind: SyntaxKind,
 }

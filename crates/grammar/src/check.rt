@@ -8,7 +8,7 @@ use event_log::records::MAX_RECORDS;
 use refusals::{Layer, Refusal};
 use tokens::input::{Input, MAX_TOKENS};
 use tokens::rows::{Row, lawful};
-use tokens::syntax_kind::{DOLLAR, EOF, IDENT, SHEBANG, TOMBSTONE};
+use tokens::syntax_kind::{DOLLAR, EOF, IDENT, SHEBANG, SyntaxKind, TOMBSTONE};
 
 /// Editions are 2015, 2018, 2021 and 2024, from 0.
 const LAST_EDITION: u8 = 3;
@@ -18,7 +18,9 @@ pub fn check(input: Input, records: usize) -> Result<(), Refusal>
     ensures { fault result ≡ verdict input.entry records }
 {
     if input.kinds.len() > MAX_TOKENS {
-        return Err(Refusal::TooManyTokens { layer: Layer::Input });
+        return Err(Refusal::TooManyTokens {
+            layer: Layer::Input,
+        });
     }
     if !lengths_fit(input, records) {
         return Err(Refusal::ColumnLength);
@@ -42,7 +44,9 @@ pub fn check_row_count(input: Input, rows: usize) -> Result<(), Refusal>
     ensures { fault result ≡ row_count_fault input.entry rows }
 {
     if input.kinds.len() > MAX_TOKENS {
-        return Err(Refusal::TooManyTokens { layer: Layer::Input });
+        return Err(Refusal::TooManyTokens {
+            layer: Layer::Input,
+        });
     }
     if rows != input.kinds.len() {
         return Err(Refusal::ColumnLength);
@@ -63,14 +67,14 @@ fn lengths_fit(input: Input, records: usize) -> bool
 }
 
 /// A kind that no token has.
-fn no_kind(kind: u16) -> bool
+fn no_kind(kind: SyntaxKind) -> bool
     ensures { result ≡ no_kind kind }
 {
     kind == TOMBSTONE || kind == EOF || kind > SHEBANG
 }
 
 /// A contextual kind that a token of this kind cannot have.
-fn no_contextual(kind: u16, contextual: u16) -> bool
+fn no_contextual(kind: SyntaxKind, contextual: SyntaxKind) -> bool
     ensures { result ≡ no_contextual kind contextual }
 {
     contextual != EOF && (kind != IDENT || contextual < DOLLAR || contextual > SHEBANG)

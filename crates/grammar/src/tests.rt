@@ -43,7 +43,9 @@ fn open_lengths(
 
 #[test]
 fn lengths(rt: HostRuntime) {
-    let many = Err(Refusal::TooManyTokens { layer: Layer::Input });
+    let many = Err(Refusal::TooManyTokens {
+        layer: Layer::Input,
+    });
     let uneven = Err(Refusal::ColumnLength);
     let table = [
         (0, 0, 0, 0, Ok(())),
@@ -281,5 +283,8 @@ fn rows(rt: HostRuntime) {
         open_rows(&[fine, faultless]),
         Err(Refusal::UnlawfulRow { place: 1 })
     );
-    assert_eq!(rt; open_rows(&[faultless; 2]), Err(Refusal::UnlawfulRow { place: 0 }));
+    assert_eq!(rt;
+        open_rows(&[faultless; 2]),
+        Err(Refusal::UnlawfulRow { place: 0 })
+    );
 }

@@ -5,9 +5,10 @@ ghost use Rattle.hosts.specs.Answers.{tree as tree_of};
 
 use crate::run::Run;
 use tokens::rows::Answer;
+use tokens::syntax_kind::SyntaxKind;
 
 /// A run as a node of this kind, with a fault if a bracket is open at its end; a fault alone if the run is empty.
-pub fn tree(kind: u16, run: Run) -> Answer
+pub fn tree(kind: SyntaxKind, run: Run) -> Answer
     ensures { result ≡ tree_of kind run }
 {
     if run.tokens == 0 {

@@ -11,8 +11,8 @@ use crate::run::{Run, Stop};
 use tokens::input::Input;
 use tokens::rows::{Answer, Hook, is_literal};
 use tokens::syntax_kind::{
-    BLOCK_EXPR, EOF, IDENT, IDENT_PAT, L_CURLY, LITERAL, PATH_EXPR, TOKEN_TREE_META, UNDERSCORE,
-    WILDCARD_PAT,
+    BLOCK_EXPR, EOF, IDENT, IDENT_PAT, L_CURLY, LITERAL, PATH_EXPR, SyntaxKind, TOKEN_TREE_META,
+    UNDERSCORE, WILDCARD_PAT,
 };
 
 #[derive(Clone, Copy)]
@@ -42,14 +42,14 @@ fn answer_ahead(hook: Hook, ahead: &[u16]) -> Answer
 }
 
 /// EOF where there is no token.
-fn first_kind(ahead: &[u16]) -> u16
+fn first_kind(ahead: &[u16]) -> SyntaxKind
     ensures { result ≡ slice_index_or ahead.now 0 end_of_file }
 {
     ahead.first().copied().unwrap_or(EOF)
 }
 
 /// A node of this kind around one token.
-fn one_token(kind: u16) -> Answer
+fn one_token(kind: SyntaxKind) -> Answer
     ensures { result ≡ one_token kind }
 {
     Answer {
@@ -59,7 +59,7 @@ fn one_token(kind: u16) -> Answer
     }
 }
 
-fn literal_or(other: Answer, kind: u16) -> Answer
+fn literal_or(other: Answer, kind: SyntaxKind) -> Answer
     ensures { result ≡ literal_or other kind }
 {
     if is_literal(kind) {
@@ -69,7 +69,7 @@ fn literal_or(other: Answer, kind: u16) -> Answer
     }
 }
 
-fn path_expr(kind: u16) -> Answer
+fn path_expr(kind: SyntaxKind) -> Answer
     ensures { result ≡ path_expr kind }
 {
     if kind == IDENT {
@@ -79,7 +79,7 @@ fn path_expr(kind: u16) -> Answer
     }
 }
 
-fn pattern(kind: u16) -> Answer
+fn pattern(kind: SyntaxKind) -> Answer
     ensures { result ≡ token_pattern kind }
 {
     match kind {

@@ -4,7 +4,7 @@ ghost use Rattle.std.specs.Prelude.{◌≡◌, ◌+◌, ◌^◌, ◌<◌};
 ghost use Rattle.hosts.specs.Runs.{opens_bracket, closes_bracket, is_mark, stops_at, depth_behind, run_of};
 
 use tokens::syntax_kind::{
-    COLON, COMMA, EQ, L_BRACK, L_CURLY, L_PAREN, R_BRACK, R_CURLY, R_PAREN, SEMICOLON,
+    COLON, COMMA, EQ, L_BRACK, L_CURLY, L_PAREN, R_BRACK, R_CURLY, R_PAREN, SEMICOLON, SyntaxKind,
 };
 
 /// What ends a run outside brackets.
@@ -47,26 +47,26 @@ impl Run {
 }
 
 /// `<` is no bracket: it may be a sign of less.
-fn opens_bracket(kind: u16) -> bool
+fn opens_bracket(kind: SyntaxKind) -> bool
     ensures { result ≡ opens_bracket kind }
 {
     matches!(kind, L_PAREN | L_BRACK | L_CURLY)
 }
 
-fn closes_bracket(kind: u16) -> bool
+fn closes_bracket(kind: SyntaxKind) -> bool
     ensures { result ≡ closes_bracket kind }
 {
     matches!(kind, R_PAREN | R_BRACK | R_CURLY)
 }
 
-fn is_mark(kind: u16) -> bool
+fn is_mark(kind: SyntaxKind) -> bool
     ensures { result ≡ is_mark kind }
 {
     matches!(kind, COMMA | SEMICOLON | EQ | COLON)
 }
 
 /// A token of this kind ends a run, outside brackets.
-fn ends_run(kind: u16, stop: Stop) -> bool
+fn ends_run(kind: SyntaxKind, stop: Stop) -> bool
     ensures { result ≡ stops_at stop kind }
 {
     match stop {
@@ -76,7 +76,7 @@ fn ends_run(kind: u16, stop: Stop) -> bool
 }
 
 /// How many brackets are open behind a token of this kind, with so many before it. Any closer closes any opener.
-fn depth_behind(kind: u16, depth: usize) -> usize
+fn depth_behind(kind: SyntaxKind, depth: usize) -> usize
     requires { depth + 1 < 2 ^ 64 }
     ensures { result ≡ depth_behind kind depth }
 {

@@ -9,7 +9,7 @@ use event_log::item::Item;
 use sinks::table::entry::Entry;
 use std::alloc::{AllocError, Global};
 use std::fmt;
-use tokens::syntax_kind::TOMBSTONE;
+use tokens::syntax_kind::{SyntaxKind, TOMBSTONE};
 
 /// The text at this index, or `?` past the last one.
 fn text_at(table: &[&'static str], at: usize) -> &'static str
@@ -18,7 +18,7 @@ fn text_at(table: &[&'static str], at: usize) -> &'static str
     table.get(at).copied().unwrap_or("?")
 }
 
-fn kind_name(kind: u16) -> &'static str
+fn kind_name(kind: SyntaxKind) -> &'static str
     ensures { result.now ≡ name_of kind }
 {
     text_at(&KIND_NAMES, kind as usize)

@@ -8,14 +8,14 @@ use crate::syntax_kind::*;
 /// The raw tokens that a token is made of, by their kinds.
 #[derive(Clone, Copy, PartialEq, Eq, Debug)]
 pub enum RawTokens {
-    One(u16),
-    Two(u16, u16),
-    Three(u16, u16, u16),
+    One(SyntaxKind),
+    Two(SyntaxKind, SyntaxKind),
+    Three(SyntaxKind, SyntaxKind, SyntaxKind),
 }
 
 /// The raw tokens that a token of this kind is made of.
 #[tactic(auto, unfolding(crate::specs::Parts::parts))]
-pub fn parts(kind: u16) -> RawTokens
+pub fn parts(kind: SyntaxKind) -> RawTokens
     ensures { result ≡ parts_of kind }
 {
     match kind {
@@ -48,7 +48,7 @@ pub fn parts(kind: u16) -> RawTokens
 }
 
 /// How many raw tokens a token of this kind is made of.
-pub fn width(kind: u16) -> u8
+pub fn width(kind: SyntaxKind) -> u8
     ensures { result ≡ width_of kind }
 {
     match parts(kind) {

@@ -2,7 +2,7 @@ ghost use Rattle.std.specs.Prelude.{◌≡◌, slice_index, slice_index_or};
 ghost use Rattle.tokens.specs.Kinds.{EOF as end_of_file};
 ghost use Rattle.tokens.specs.Columns.{joint_in};
 
-use crate::syntax_kind::EOF;
+use crate::syntax_kind::{EOF, SyntaxKind};
 
 /// How many tokens a reading takes at most.
 pub const MAX_TOKENS: usize = 4096;
@@ -27,13 +27,13 @@ pub(crate) fn entry<T: Copy>(column: &[T], idx: usize, past: T) -> T
 }
 
 impl<'a> Input<'a> {
-    pub fn kind(&self, idx: usize) -> u16
+    pub fn kind(&self, idx: usize) -> SyntaxKind
         ensures { result ≡ slice_index_or self.now.kinds.now idx end_of_file }
     {
         entry(self.kinds, idx, EOF)
     }
 
-    pub fn contextual_kind(&self, idx: usize) -> u16
+    pub fn contextual_kind(&self, idx: usize) -> SyntaxKind
         ensures { result ≡ slice_index_or self.now.contextual.now idx end_of_file }
     {
         entry(self.contextual, idx, EOF)

@@ -11,7 +11,7 @@ mod tests;
 
 use crate::syntax_kind::{
     ABI, BYTE, BYTE_STRING, C_STRING, CHAR, EOF, FALSE_KW, FLOAT_NUMBER, IDENT, INT_NUMBER,
-    L_CURLY, STRING, TRUE_KW, UNDERSCORE,
+    L_CURLY, STRING, SyntaxKind, TRUE_KW, UNDERSCORE,
 };
 
 /// What is asked at a token place: a function of the Rust that an answer stands for.
@@ -51,7 +51,7 @@ pub struct Answer {
     /// how many raw tokens it takes
     pub tokens: usize,
     /// the kind of the node around them, if there is one
-    pub kind: Option<u16>,
+    pub kind: Option<SyntaxKind>,
     pub fault: bool,
 }
 
@@ -122,7 +122,7 @@ impl Answer {
 }
 
 /// A literal's first token, which is all of it.
-pub fn is_literal(kind: u16) -> bool
+pub fn is_literal(kind: SyntaxKind) -> bool
     ensures { result ≡ is_literal kind }
 {
     matches!(
@@ -158,7 +158,7 @@ fn may_lack_fault(hook: Hook, answer: &Answer) -> bool
 }
 
 /// This hook takes a token of this kind, fault or not.
-fn must_take(hook: Hook, kind: u16) -> bool
+fn must_take(hook: Hook, kind: SyntaxKind) -> bool
     ensures { result ≡ must_take hook kind }
 {
     match hook {
@@ -170,7 +170,7 @@ fn must_take(hook: Hook, kind: u16) -> bool
 }
 
 /// It takes a token where the hook has to take one of this kind.
-fn takes_enough(hook: Hook, kind: u16, answer: &Answer) -> bool
+fn takes_enough(hook: Hook, kind: SyntaxKind, answer: &Answer) -> bool
     ensures { result ≡ takes_enough hook kind answer.now }
 {
     answer.tokens > 0 || !must_take(hook, kind)

@@ -1,668 +1,671 @@
 //! The kinds of tokens and nodes: the number of each is its position in the list, from 0.
 //! Written by tools/kinds from docs/kinds.tsv.
 
-pub const TOMBSTONE: u16 = 0;
+/// A kind, as its number: columns, records and rows may hold any, also one that no kind has.
+pub type SyntaxKind = u16;
 
-pub const EOF: u16 = 1;
+pub const TOMBSTONE: SyntaxKind = 0;
 
-pub const DOLLAR: u16 = 2;
+pub const EOF: SyntaxKind = 1;
 
-pub const SEMICOLON: u16 = 3;
+pub const DOLLAR: SyntaxKind = 2;
 
-pub const COMMA: u16 = 4;
+pub const SEMICOLON: SyntaxKind = 3;
 
-pub const L_PAREN: u16 = 5;
+pub const COMMA: SyntaxKind = 4;
 
-pub const R_PAREN: u16 = 6;
+pub const L_PAREN: SyntaxKind = 5;
 
-pub const L_CURLY: u16 = 7;
+pub const R_PAREN: SyntaxKind = 6;
 
-pub const R_CURLY: u16 = 8;
+pub const L_CURLY: SyntaxKind = 7;
 
-pub const L_BRACK: u16 = 9;
+pub const R_CURLY: SyntaxKind = 8;
 
-pub const R_BRACK: u16 = 10;
+pub const L_BRACK: SyntaxKind = 9;
 
-pub const L_ANGLE: u16 = 11;
+pub const R_BRACK: SyntaxKind = 10;
 
-pub const R_ANGLE: u16 = 12;
+pub const L_ANGLE: SyntaxKind = 11;
 
-pub const AT: u16 = 13;
+pub const R_ANGLE: SyntaxKind = 12;
 
-pub const POUND: u16 = 14;
+pub const AT: SyntaxKind = 13;
 
-pub const TILDE: u16 = 15;
+pub const POUND: SyntaxKind = 14;
 
-pub const QUESTION: u16 = 16;
+pub const TILDE: SyntaxKind = 15;
 
-pub const AMP: u16 = 17;
+pub const QUESTION: SyntaxKind = 16;
 
-pub const PIPE: u16 = 18;
+pub const AMP: SyntaxKind = 17;
 
-pub const PLUS: u16 = 19;
+pub const PIPE: SyntaxKind = 18;
 
-pub const STAR: u16 = 20;
+pub const PLUS: SyntaxKind = 19;
 
-pub const SLASH: u16 = 21;
+pub const STAR: SyntaxKind = 20;
 
-pub const CARET: u16 = 22;
+pub const SLASH: SyntaxKind = 21;
 
-pub const PERCENT: u16 = 23;
+pub const CARET: SyntaxKind = 22;
 
-pub const UNDERSCORE: u16 = 24;
+pub const PERCENT: SyntaxKind = 23;
 
-pub const DOT: u16 = 25;
+pub const UNDERSCORE: SyntaxKind = 24;
 
-pub const DOT2: u16 = 26;
+pub const DOT: SyntaxKind = 25;
 
-pub const DOT3: u16 = 27;
+pub const DOT2: SyntaxKind = 26;
 
-pub const DOT2EQ: u16 = 28;
+pub const DOT3: SyntaxKind = 27;
 
-pub const COLON: u16 = 29;
+pub const DOT2EQ: SyntaxKind = 28;
 
-pub const COLON2: u16 = 30;
+pub const COLON: SyntaxKind = 29;
 
-pub const EQ: u16 = 31;
+pub const COLON2: SyntaxKind = 30;
 
-pub const EQ2: u16 = 32;
+pub const EQ: SyntaxKind = 31;
 
-pub const FAT_ARROW: u16 = 33;
+pub const EQ2: SyntaxKind = 32;
 
-pub const BANG: u16 = 34;
+pub const FAT_ARROW: SyntaxKind = 33;
 
-pub const NEQ: u16 = 35;
+pub const BANG: SyntaxKind = 34;
 
-pub const MINUS: u16 = 36;
+pub const NEQ: SyntaxKind = 35;
 
-pub const THIN_ARROW: u16 = 37;
+pub const MINUS: SyntaxKind = 36;
 
-pub const LTEQ: u16 = 38;
+pub const THIN_ARROW: SyntaxKind = 37;
 
-pub const GTEQ: u16 = 39;
+pub const LTEQ: SyntaxKind = 38;
 
-pub const PLUSEQ: u16 = 40;
+pub const GTEQ: SyntaxKind = 39;
 
-pub const MINUSEQ: u16 = 41;
+pub const PLUSEQ: SyntaxKind = 40;
 
-pub const PIPEEQ: u16 = 42;
+pub const MINUSEQ: SyntaxKind = 41;
 
-pub const AMPEQ: u16 = 43;
+pub const PIPEEQ: SyntaxKind = 42;
 
-pub const CARETEQ: u16 = 44;
+pub const AMPEQ: SyntaxKind = 43;
 
-pub const SLASHEQ: u16 = 45;
+pub const CARETEQ: SyntaxKind = 44;
 
-pub const STAREQ: u16 = 46;
+pub const SLASHEQ: SyntaxKind = 45;
 
-pub const PERCENTEQ: u16 = 47;
+pub const STAREQ: SyntaxKind = 46;
 
-pub const AMP2: u16 = 48;
+pub const PERCENTEQ: SyntaxKind = 47;
 
-pub const PIPE2: u16 = 49;
+pub const AMP2: SyntaxKind = 48;
 
-pub const SHL: u16 = 50;
+pub const PIPE2: SyntaxKind = 49;
 
-pub const SHR: u16 = 51;
+pub const SHL: SyntaxKind = 50;
 
-pub const SHLEQ: u16 = 52;
+pub const SHR: SyntaxKind = 51;
 
-pub const SHREQ: u16 = 53;
+pub const SHLEQ: SyntaxKind = 52;
 
-pub const SELF_TYPE_KW: u16 = 54;
+pub const SHREQ: SyntaxKind = 53;
 
-pub const ABSTRACT_KW: u16 = 55;
+pub const SELF_TYPE_KW: SyntaxKind = 54;
 
-pub const AS_KW: u16 = 56;
+pub const ABSTRACT_KW: SyntaxKind = 55;
 
-pub const BECOME_KW: u16 = 57;
+pub const AS_KW: SyntaxKind = 56;
 
-pub const BOX_KW: u16 = 58;
+pub const BECOME_KW: SyntaxKind = 57;
 
-pub const BREAK_KW: u16 = 59;
+pub const BOX_KW: SyntaxKind = 58;
 
-pub const CONST_KW: u16 = 60;
+pub const BREAK_KW: SyntaxKind = 59;
 
-pub const CONTINUE_KW: u16 = 61;
+pub const CONST_KW: SyntaxKind = 60;
 
-pub const CRATE_KW: u16 = 62;
+pub const CONTINUE_KW: SyntaxKind = 61;
 
-pub const DO_KW: u16 = 63;
+pub const CRATE_KW: SyntaxKind = 62;
 
-pub const ELSE_KW: u16 = 64;
+pub const DO_KW: SyntaxKind = 63;
 
-pub const ENUM_KW: u16 = 65;
+pub const ELSE_KW: SyntaxKind = 64;
 
-pub const EXTERN_KW: u16 = 66;
+pub const ENUM_KW: SyntaxKind = 65;
 
-pub const FALSE_KW: u16 = 67;
+pub const EXTERN_KW: SyntaxKind = 66;
 
-pub const FINAL_KW: u16 = 68;
+pub const FALSE_KW: SyntaxKind = 67;
 
-pub const FN_KW: u16 = 69;
+pub const FINAL_KW: SyntaxKind = 68;
 
-pub const FOR_KW: u16 = 70;
+pub const FN_KW: SyntaxKind = 69;
 
-pub const IF_KW: u16 = 71;
+pub const FOR_KW: SyntaxKind = 70;
 
-pub const IMPL_KW: u16 = 72;
+pub const IF_KW: SyntaxKind = 71;
 
-pub const IN_KW: u16 = 73;
+pub const IMPL_KW: SyntaxKind = 72;
 
-pub const LET_KW: u16 = 74;
+pub const IN_KW: SyntaxKind = 73;
 
-pub const LOOP_KW: u16 = 75;
+pub const LET_KW: SyntaxKind = 74;
 
-pub const MACRO_KW: u16 = 76;
+pub const LOOP_KW: SyntaxKind = 75;
 
-pub const MATCH_KW: u16 = 77;
+pub const MACRO_KW: SyntaxKind = 76;
 
-pub const MOD_KW: u16 = 78;
+pub const MATCH_KW: SyntaxKind = 77;
 
-pub const MOVE_KW: u16 = 79;
+pub const MOD_KW: SyntaxKind = 78;
 
-pub const MUT_KW: u16 = 80;
+pub const MOVE_KW: SyntaxKind = 79;
 
-pub const OVERRIDE_KW: u16 = 81;
+pub const MUT_KW: SyntaxKind = 80;
 
-pub const PRIV_KW: u16 = 82;
+pub const OVERRIDE_KW: SyntaxKind = 81;
 
-pub const PUB_KW: u16 = 83;
+pub const PRIV_KW: SyntaxKind = 82;
 
-pub const REF_KW: u16 = 84;
+pub const PUB_KW: SyntaxKind = 83;
 
-pub const RETURN_KW: u16 = 85;
+pub const REF_KW: SyntaxKind = 84;
 
-pub const SELF_KW: u16 = 86;
+pub const RETURN_KW: SyntaxKind = 85;
 
-pub const STATIC_KW: u16 = 87;
+pub const SELF_KW: SyntaxKind = 86;
 
-pub const STRUCT_KW: u16 = 88;
+pub const STATIC_KW: SyntaxKind = 87;
 
-pub const SUPER_KW: u16 = 89;
+pub const STRUCT_KW: SyntaxKind = 88;
 
-pub const TRAIT_KW: u16 = 90;
+pub const SUPER_KW: SyntaxKind = 89;
 
-pub const TRUE_KW: u16 = 91;
+pub const TRAIT_KW: SyntaxKind = 90;
 
-pub const TYPE_KW: u16 = 92;
+pub const TRUE_KW: SyntaxKind = 91;
 
-pub const TYPEOF_KW: u16 = 93;
+pub const TYPE_KW: SyntaxKind = 92;
 
-pub const UNSAFE_KW: u16 = 94;
+pub const TYPEOF_KW: SyntaxKind = 93;
 
-pub const UNSIZED_KW: u16 = 95;
+pub const UNSAFE_KW: SyntaxKind = 94;
 
-pub const USE_KW: u16 = 96;
+pub const UNSIZED_KW: SyntaxKind = 95;
 
-pub const VIRTUAL_KW: u16 = 97;
+pub const USE_KW: SyntaxKind = 96;
 
-pub const WHERE_KW: u16 = 98;
+pub const VIRTUAL_KW: SyntaxKind = 97;
 
-pub const WHILE_KW: u16 = 99;
+pub const WHERE_KW: SyntaxKind = 98;
 
-pub const YIELD_KW: u16 = 100;
+pub const WHILE_KW: SyntaxKind = 99;
 
-pub const ASM_KW: u16 = 101;
+pub const YIELD_KW: SyntaxKind = 100;
 
-pub const ASYNC_KW: u16 = 102;
+pub const ASM_KW: SyntaxKind = 101;
 
-pub const ATT_SYNTAX_KW: u16 = 103;
+pub const ASYNC_KW: SyntaxKind = 102;
 
-pub const AUTO_KW: u16 = 104;
+pub const ATT_SYNTAX_KW: SyntaxKind = 103;
 
-pub const AWAIT_KW: u16 = 105;
+pub const AUTO_KW: SyntaxKind = 104;
 
-pub const BIKESHED_KW: u16 = 106;
+pub const AWAIT_KW: SyntaxKind = 105;
 
-pub const BUILTIN_KW: u16 = 107;
+pub const BIKESHED_KW: SyntaxKind = 106;
 
-pub const CFG_ATTR_KW: u16 = 108;
+pub const BUILTIN_KW: SyntaxKind = 107;
 
-pub const CFG_KW: u16 = 109;
+pub const CFG_ATTR_KW: SyntaxKind = 108;
 
-pub const CLOBBER_ABI_KW: u16 = 110;
+pub const CFG_KW: SyntaxKind = 109;
 
-pub const DEFAULT_KW: u16 = 111;
+pub const CLOBBER_ABI_KW: SyntaxKind = 110;
 
-pub const DEREF_KW: u16 = 112;
+pub const DEFAULT_KW: SyntaxKind = 111;
 
-pub const DYN_KW: u16 = 113;
+pub const DEREF_KW: SyntaxKind = 112;
 
-pub const FORMAT_ARGS_KW: u16 = 114;
+pub const DYN_KW: SyntaxKind = 113;
 
-pub const GEN_KW: u16 = 115;
+pub const FORMAT_ARGS_KW: SyntaxKind = 114;
 
-pub const GLOBAL_ASM_KW: u16 = 116;
+pub const GEN_KW: SyntaxKind = 115;
 
-pub const INCLUDE_BYTES_KW: u16 = 117;
+pub const GLOBAL_ASM_KW: SyntaxKind = 116;
 
-pub const INLATEOUT_KW: u16 = 118;
+pub const INCLUDE_BYTES_KW: SyntaxKind = 117;
 
-pub const INOUT_KW: u16 = 119;
+pub const INLATEOUT_KW: SyntaxKind = 118;
 
-pub const IS_KW: u16 = 120;
+pub const INOUT_KW: SyntaxKind = 119;
 
-pub const LABEL_KW: u16 = 121;
+pub const IS_KW: SyntaxKind = 120;
 
-pub const LATEOUT_KW: u16 = 122;
+pub const LABEL_KW: SyntaxKind = 121;
 
-pub const MACRO_RULES_KW: u16 = 123;
+pub const LATEOUT_KW: SyntaxKind = 122;
 
-pub const MAY_UNWIND_KW: u16 = 124;
+pub const MACRO_RULES_KW: SyntaxKind = 123;
 
-pub const NAKED_ASM_KW: u16 = 125;
+pub const MAY_UNWIND_KW: SyntaxKind = 124;
 
-pub const NOMEM_KW: u16 = 126;
+pub const NAKED_ASM_KW: SyntaxKind = 125;
 
-pub const NORETURN_KW: u16 = 127;
+pub const NOMEM_KW: SyntaxKind = 126;
 
-pub const NOSTACK_KW: u16 = 128;
+pub const NORETURN_KW: SyntaxKind = 127;
 
-pub const NULL_KW: u16 = 129;
+pub const NOSTACK_KW: SyntaxKind = 128;
 
-pub const OFFSET_OF_KW: u16 = 130;
+pub const NULL_KW: SyntaxKind = 129;
 
-pub const OPTIONS_KW: u16 = 131;
+pub const OFFSET_OF_KW: SyntaxKind = 130;
 
-pub const OUT_KW: u16 = 132;
+pub const OPTIONS_KW: SyntaxKind = 131;
 
-pub const PATTERN_TYPE_KW: u16 = 133;
+pub const OUT_KW: SyntaxKind = 132;
 
-pub const PRESERVES_FLAGS_KW: u16 = 134;
+pub const PATTERN_TYPE_KW: SyntaxKind = 133;
 
-pub const PURE_KW: u16 = 135;
+pub const PRESERVES_FLAGS_KW: SyntaxKind = 134;
 
-pub const RAW_KW: u16 = 136;
+pub const PURE_KW: SyntaxKind = 135;
 
-pub const READONLY_KW: u16 = 137;
+pub const RAW_KW: SyntaxKind = 136;
 
-pub const SAFE_KW: u16 = 138;
+pub const READONLY_KW: SyntaxKind = 137;
 
-pub const SYM_KW: u16 = 139;
+pub const SAFE_KW: SyntaxKind = 138;
 
-pub const TRY_KW: u16 = 140;
+pub const SYM_KW: SyntaxKind = 139;
 
-pub const UNION_KW: u16 = 141;
+pub const TRY_KW: SyntaxKind = 140;
 
-pub const YEET_KW: u16 = 142;
+pub const UNION_KW: SyntaxKind = 141;
 
-pub const BYTE: u16 = 143;
+pub const YEET_KW: SyntaxKind = 142;
 
-pub const BYTE_STRING: u16 = 144;
+pub const BYTE: SyntaxKind = 143;
 
-pub const CHAR: u16 = 145;
+pub const BYTE_STRING: SyntaxKind = 144;
 
-pub const C_STRING: u16 = 146;
+pub const CHAR: SyntaxKind = 145;
 
-pub const FLOAT_NUMBER: u16 = 147;
+pub const C_STRING: SyntaxKind = 146;
 
-pub const INT_NUMBER: u16 = 148;
+pub const FLOAT_NUMBER: SyntaxKind = 147;
 
-pub const STRING: u16 = 149;
+pub const INT_NUMBER: SyntaxKind = 148;
 
-pub const COMMENT: u16 = 150;
+pub const STRING: SyntaxKind = 149;
 
-pub const ERROR: u16 = 151;
+pub const COMMENT: SyntaxKind = 150;
 
-pub const FRONTMATTER: u16 = 152;
+pub const ERROR: SyntaxKind = 151;
 
-pub const IDENT: u16 = 153;
+pub const FRONTMATTER: SyntaxKind = 152;
 
-pub const INNER_DOC_COMMENT: u16 = 154;
+pub const IDENT: SyntaxKind = 153;
 
-pub const LIFETIME_IDENT: u16 = 155;
+pub const INNER_DOC_COMMENT: SyntaxKind = 154;
 
-pub const NEWLINE: u16 = 156;
+pub const LIFETIME_IDENT: SyntaxKind = 155;
 
-pub const OUTER_DOC_COMMENT: u16 = 157;
+pub const NEWLINE: SyntaxKind = 156;
 
-pub const SHEBANG: u16 = 158;
+pub const OUTER_DOC_COMMENT: SyntaxKind = 157;
 
-pub const WHITESPACE: u16 = 159;
+pub const SHEBANG: SyntaxKind = 158;
 
-pub const ABI: u16 = 160;
+pub const WHITESPACE: SyntaxKind = 159;
 
-pub const ARG_LIST: u16 = 161;
+pub const ABI: SyntaxKind = 160;
 
-pub const ARRAY_EXPR: u16 = 162;
+pub const ARG_LIST: SyntaxKind = 161;
 
-pub const ARRAY_TYPE: u16 = 163;
+pub const ARRAY_EXPR: SyntaxKind = 162;
 
-pub const ASM_CLOBBER_ABI: u16 = 164;
+pub const ARRAY_TYPE: SyntaxKind = 163;
 
-pub const ASM_CONST: u16 = 165;
+pub const ASM_CLOBBER_ABI: SyntaxKind = 164;
 
-pub const ASM_DIR_SPEC: u16 = 166;
+pub const ASM_CONST: SyntaxKind = 165;
 
-pub const ASM_EXPR: u16 = 167;
+pub const ASM_DIR_SPEC: SyntaxKind = 166;
 
-pub const ASM_LABEL: u16 = 168;
+pub const ASM_EXPR: SyntaxKind = 167;
 
-pub const ASM_OPERAND_EXPR: u16 = 169;
+pub const ASM_LABEL: SyntaxKind = 168;
 
-pub const ASM_OPERAND_NAMED: u16 = 170;
+pub const ASM_OPERAND_EXPR: SyntaxKind = 169;
 
-pub const ASM_OPTION: u16 = 171;
+pub const ASM_OPERAND_NAMED: SyntaxKind = 170;
 
-pub const ASM_OPTIONS: u16 = 172;
+pub const ASM_OPTION: SyntaxKind = 171;
 
-pub const ASM_REG_OPERAND: u16 = 173;
+pub const ASM_OPTIONS: SyntaxKind = 172;
 
-pub const ASM_REG_SPEC: u16 = 174;
+pub const ASM_REG_OPERAND: SyntaxKind = 173;
 
-pub const ASM_SYM: u16 = 175;
+pub const ASM_REG_SPEC: SyntaxKind = 174;
 
-pub const ASSOC_ITEM_LIST: u16 = 176;
+pub const ASM_SYM: SyntaxKind = 175;
 
-pub const ASSOC_TYPE_ARG: u16 = 177;
+pub const ASSOC_ITEM_LIST: SyntaxKind = 176;
 
-pub const ATTR: u16 = 178;
+pub const ASSOC_TYPE_ARG: SyntaxKind = 177;
 
-pub const AWAIT_EXPR: u16 = 179;
+pub const ATTR: SyntaxKind = 178;
 
-pub const BECOME_EXPR: u16 = 180;
+pub const AWAIT_EXPR: SyntaxKind = 179;
 
-pub const BIN_EXPR: u16 = 181;
+pub const BECOME_EXPR: SyntaxKind = 180;
 
-pub const BLOCK_EXPR: u16 = 182;
+pub const BIN_EXPR: SyntaxKind = 181;
 
-pub const BOX_PAT: u16 = 183;
+pub const BLOCK_EXPR: SyntaxKind = 182;
 
-pub const BREAK_EXPR: u16 = 184;
+pub const BOX_PAT: SyntaxKind = 183;
 
-pub const CALL_EXPR: u16 = 185;
+pub const BREAK_EXPR: SyntaxKind = 184;
 
-pub const CAST_EXPR: u16 = 186;
+pub const CALL_EXPR: SyntaxKind = 185;
 
-pub const CFG_ATOM: u16 = 187;
+pub const CAST_EXPR: SyntaxKind = 186;
 
-pub const CFG_ATTR_META: u16 = 188;
+pub const CFG_ATOM: SyntaxKind = 187;
 
-pub const CFG_COMPOSITE: u16 = 189;
+pub const CFG_ATTR_META: SyntaxKind = 188;
 
-pub const CFG_META: u16 = 190;
+pub const CFG_COMPOSITE: SyntaxKind = 189;
 
-pub const CFG_PRED_EXPR: u16 = 191;
+pub const CFG_META: SyntaxKind = 190;
 
-pub const CFG_PRED_PAT: u16 = 192;
+pub const CFG_PRED_EXPR: SyntaxKind = 191;
 
-pub const CLOSURE_EXPR: u16 = 193;
+pub const CFG_PRED_PAT: SyntaxKind = 192;
 
-pub const CONST: u16 = 194;
+pub const CLOSURE_EXPR: SyntaxKind = 193;
 
-pub const CONST_ARG: u16 = 195;
+pub const CONST: SyntaxKind = 194;
 
-pub const CONST_BLOCK_PAT: u16 = 196;
+pub const CONST_ARG: SyntaxKind = 195;
 
-pub const CONST_PARAM: u16 = 197;
+pub const CONST_BLOCK_PAT: SyntaxKind = 196;
 
-pub const CONTINUE_EXPR: u16 = 198;
+pub const CONST_PARAM: SyntaxKind = 197;
 
-pub const DEREF_PAT: u16 = 199;
+pub const CONTINUE_EXPR: SyntaxKind = 198;
 
-pub const DOC_COMMENT: u16 = 200;
+pub const DEREF_PAT: SyntaxKind = 199;
 
-pub const DYN_TRAIT_TYPE: u16 = 201;
+pub const DOC_COMMENT: SyntaxKind = 200;
 
-pub const ENUM: u16 = 202;
+pub const DYN_TRAIT_TYPE: SyntaxKind = 201;
 
-pub const EXPR_STMT: u16 = 203;
+pub const ENUM: SyntaxKind = 202;
 
-pub const EXTERN_BLOCK: u16 = 204;
+pub const EXPR_STMT: SyntaxKind = 203;
 
-pub const EXTERN_CRATE: u16 = 205;
+pub const EXTERN_BLOCK: SyntaxKind = 204;
 
-pub const EXTERN_ITEM_LIST: u16 = 206;
+pub const EXTERN_CRATE: SyntaxKind = 205;
 
-pub const FIELD_EXPR: u16 = 207;
+pub const EXTERN_ITEM_LIST: SyntaxKind = 206;
 
-pub const FN: u16 = 208;
+pub const FIELD_EXPR: SyntaxKind = 207;
 
-pub const FN_PTR_TYPE: u16 = 209;
+pub const FN: SyntaxKind = 208;
 
-pub const FORMAT_ARGS_ARG: u16 = 210;
+pub const FN_PTR_TYPE: SyntaxKind = 209;
 
-pub const FORMAT_ARGS_EXPR: u16 = 211;
+pub const FORMAT_ARGS_ARG: SyntaxKind = 210;
 
-pub const FOR_BINDER: u16 = 212;
+pub const FORMAT_ARGS_EXPR: SyntaxKind = 211;
 
-pub const FOR_EXPR: u16 = 213;
+pub const FOR_BINDER: SyntaxKind = 212;
 
-pub const FOR_TYPE: u16 = 214;
+pub const FOR_EXPR: SyntaxKind = 213;
 
-pub const GENERIC_ARG_LIST: u16 = 215;
+pub const FOR_TYPE: SyntaxKind = 214;
 
-pub const GENERIC_PARAM_LIST: u16 = 216;
+pub const GENERIC_ARG_LIST: SyntaxKind = 215;
 
-pub const IDENT_PAT: u16 = 217;
+pub const GENERIC_PARAM_LIST: SyntaxKind = 216;
 
-pub const IF_EXPR: u16 = 218;
+pub const IDENT_PAT: SyntaxKind = 217;
 
-pub const IMPL: u16 = 219;
+pub const IF_EXPR: SyntaxKind = 218;
 
-pub const IMPL_RESTRICTION: u16 = 220;
+pub const IMPL: SyntaxKind = 219;
 
-pub const IMPL_TRAIT_TYPE: u16 = 221;
+pub const IMPL_RESTRICTION: SyntaxKind = 220;
 
-pub const INCLUDE_BYTES_EXPR: u16 = 222;
+pub const IMPL_TRAIT_TYPE: SyntaxKind = 221;
 
-pub const INDEX_EXPR: u16 = 223;
+pub const INCLUDE_BYTES_EXPR: SyntaxKind = 222;
 
-pub const INFER_TYPE: u16 = 224;
+pub const INDEX_EXPR: SyntaxKind = 223;
 
-pub const ITEM_LIST: u16 = 225;
+pub const INFER_TYPE: SyntaxKind = 224;
 
-pub const KEY_VALUE_META: u16 = 226;
+pub const ITEM_LIST: SyntaxKind = 225;
 
-pub const LABEL: u16 = 227;
+pub const KEY_VALUE_META: SyntaxKind = 226;
 
-pub const LET_ELSE: u16 = 228;
+pub const LABEL: SyntaxKind = 227;
 
-pub const LET_EXPR: u16 = 229;
+pub const LET_ELSE: SyntaxKind = 228;
 
-pub const LET_STMT: u16 = 230;
+pub const LET_EXPR: SyntaxKind = 229;
 
-pub const LIFETIME: u16 = 231;
+pub const LET_STMT: SyntaxKind = 230;
 
-pub const LIFETIME_ARG: u16 = 232;
+pub const LIFETIME: SyntaxKind = 231;
 
-pub const LIFETIME_PARAM: u16 = 233;
+pub const LIFETIME_ARG: SyntaxKind = 232;
 
-pub const LITERAL: u16 = 234;
+pub const LIFETIME_PARAM: SyntaxKind = 233;
 
-pub const LITERAL_PAT: u16 = 235;
+pub const LITERAL: SyntaxKind = 234;
 
-pub const LOOP_EXPR: u16 = 236;
+pub const LITERAL_PAT: SyntaxKind = 235;
 
-pub const MACRO_CALL: u16 = 237;
+pub const LOOP_EXPR: SyntaxKind = 236;
 
-pub const MACRO_DEF: u16 = 238;
+pub const MACRO_CALL: SyntaxKind = 237;
 
-pub const MACRO_EXPR: u16 = 239;
+pub const MACRO_DEF: SyntaxKind = 238;
 
-pub const MACRO_ITEMS: u16 = 240;
+pub const MACRO_EXPR: SyntaxKind = 239;
 
-pub const MACRO_PAT: u16 = 241;
+pub const MACRO_ITEMS: SyntaxKind = 240;
 
-pub const MACRO_RULES: u16 = 242;
+pub const MACRO_PAT: SyntaxKind = 241;
 
-pub const MACRO_STMTS: u16 = 243;
+pub const MACRO_RULES: SyntaxKind = 242;
 
-pub const MACRO_TYPE: u16 = 244;
+pub const MACRO_STMTS: SyntaxKind = 243;
 
-pub const MATCH_ARM: u16 = 245;
+pub const MACRO_TYPE: SyntaxKind = 244;
 
-pub const MATCH_ARM_LIST: u16 = 246;
+pub const MATCH_ARM: SyntaxKind = 245;
 
-pub const MATCH_EXPR: u16 = 247;
+pub const MATCH_ARM_LIST: SyntaxKind = 246;
 
-pub const MATCH_GUARD: u16 = 248;
+pub const MATCH_EXPR: SyntaxKind = 247;
 
-pub const METHOD_CALL_EXPR: u16 = 249;
+pub const MATCH_GUARD: SyntaxKind = 248;
 
-pub const MODULE: u16 = 250;
+pub const METHOD_CALL_EXPR: SyntaxKind = 249;
 
-pub const MUT_RESTRICTION: u16 = 251;
+pub const MODULE: SyntaxKind = 250;
 
-pub const NAME: u16 = 252;
+pub const MUT_RESTRICTION: SyntaxKind = 251;
 
-pub const NAME_REF: u16 = 253;
+pub const NAME: SyntaxKind = 252;
 
-pub const NEVER_TYPE: u16 = 254;
+pub const NAME_REF: SyntaxKind = 253;
 
-pub const NOT_NULL: u16 = 255;
+pub const NEVER_TYPE: SyntaxKind = 254;
 
-pub const OFFSET_OF_EXPR: u16 = 256;
+pub const NOT_NULL: SyntaxKind = 255;
 
-pub const OR_PAT: u16 = 257;
+pub const OFFSET_OF_EXPR: SyntaxKind = 256;
 
-pub const PARAM: u16 = 258;
+pub const OR_PAT: SyntaxKind = 257;
 
-pub const PARAM_LIST: u16 = 259;
+pub const PARAM: SyntaxKind = 258;
 
-pub const PARENTHESIZED_ARG_LIST: u16 = 260;
+pub const PARAM_LIST: SyntaxKind = 259;
 
-pub const PAREN_EXPR: u16 = 261;
+pub const PARENTHESIZED_ARG_LIST: SyntaxKind = 260;
 
-pub const PAREN_PAT: u16 = 262;
+pub const PAREN_EXPR: SyntaxKind = 261;
 
-pub const PAREN_TYPE: u16 = 263;
+pub const PAREN_PAT: SyntaxKind = 262;
 
-pub const PATH: u16 = 264;
+pub const PAREN_TYPE: SyntaxKind = 263;
 
-pub const PATH_EXPR: u16 = 265;
+pub const PATH: SyntaxKind = 264;
 
-pub const PATH_META: u16 = 266;
+pub const PATH_EXPR: SyntaxKind = 265;
 
-pub const PATH_PAT: u16 = 267;
+pub const PATH_META: SyntaxKind = 266;
 
-pub const PATH_SEGMENT: u16 = 268;
+pub const PATH_PAT: SyntaxKind = 267;
 
-pub const PATH_TYPE: u16 = 269;
+pub const PATH_SEGMENT: SyntaxKind = 268;
 
-pub const PATTERN_TYPE: u16 = 270;
+pub const PATH_TYPE: SyntaxKind = 269;
 
-pub const PREFIX_EXPR: u16 = 271;
+pub const PATTERN_TYPE: SyntaxKind = 270;
 
-pub const PTR_TYPE: u16 = 272;
+pub const PREFIX_EXPR: SyntaxKind = 271;
 
-pub const RANGE_EXPR: u16 = 273;
+pub const PTR_TYPE: SyntaxKind = 272;
 
-pub const RANGE_PAT: u16 = 274;
+pub const RANGE_EXPR: SyntaxKind = 273;
 
-pub const RECORD_EXPR: u16 = 275;
+pub const RANGE_PAT: SyntaxKind = 274;
 
-pub const RECORD_EXPR_FIELD: u16 = 276;
+pub const RECORD_EXPR: SyntaxKind = 275;
 
-pub const RECORD_EXPR_FIELD_LIST: u16 = 277;
+pub const RECORD_EXPR_FIELD: SyntaxKind = 276;
 
-pub const RECORD_FIELD: u16 = 278;
+pub const RECORD_EXPR_FIELD_LIST: SyntaxKind = 277;
 
-pub const RECORD_FIELD_LIST: u16 = 279;
+pub const RECORD_FIELD: SyntaxKind = 278;
 
-pub const RECORD_PAT: u16 = 280;
+pub const RECORD_FIELD_LIST: SyntaxKind = 279;
 
-pub const RECORD_PAT_FIELD: u16 = 281;
+pub const RECORD_PAT: SyntaxKind = 280;
 
-pub const RECORD_PAT_FIELD_LIST: u16 = 282;
+pub const RECORD_PAT_FIELD: SyntaxKind = 281;
 
-pub const REF_EXPR: u16 = 283;
+pub const RECORD_PAT_FIELD_LIST: SyntaxKind = 282;
 
-pub const REF_PAT: u16 = 284;
+pub const REF_EXPR: SyntaxKind = 283;
 
-pub const REF_TYPE: u16 = 285;
+pub const REF_PAT: SyntaxKind = 284;
 
-pub const RENAME: u16 = 286;
+pub const REF_TYPE: SyntaxKind = 285;
 
-pub const REST_PAT: u16 = 287;
+pub const RENAME: SyntaxKind = 286;
 
-pub const RETURN_EXPR: u16 = 288;
+pub const REST_PAT: SyntaxKind = 287;
 
-pub const RETURN_TYPE_SYNTAX: u16 = 289;
+pub const RETURN_EXPR: SyntaxKind = 288;
 
-pub const RET_TYPE: u16 = 290;
+pub const RETURN_TYPE_SYNTAX: SyntaxKind = 289;
 
-pub const SELF_PARAM: u16 = 291;
+pub const RET_TYPE: SyntaxKind = 290;
 
-pub const SLICE_PAT: u16 = 292;
+pub const SELF_PARAM: SyntaxKind = 291;
 
-pub const SLICE_TYPE: u16 = 293;
+pub const SLICE_PAT: SyntaxKind = 292;
 
-pub const SOURCE_FILE: u16 = 294;
+pub const SLICE_TYPE: SyntaxKind = 293;
 
-pub const STATIC: u16 = 295;
+pub const SOURCE_FILE: SyntaxKind = 294;
 
-pub const STMT_LIST: u16 = 296;
+pub const STATIC: SyntaxKind = 295;
 
-pub const STRUCT: u16 = 297;
+pub const STMT_LIST: SyntaxKind = 296;
 
-pub const TOKEN_TREE: u16 = 298;
+pub const STRUCT: SyntaxKind = 297;
 
-pub const TOKEN_TREE_META: u16 = 299;
+pub const TOKEN_TREE: SyntaxKind = 298;
 
-pub const TRAIT: u16 = 300;
+pub const TOKEN_TREE_META: SyntaxKind = 299;
 
-pub const TRY_BLOCK_MODIFIER: u16 = 301;
+pub const TRAIT: SyntaxKind = 300;
 
-pub const TRY_EXPR: u16 = 302;
+pub const TRY_BLOCK_MODIFIER: SyntaxKind = 301;
 
-pub const TUPLE_EXPR: u16 = 303;
+pub const TRY_EXPR: SyntaxKind = 302;
 
-pub const TUPLE_FIELD: u16 = 304;
+pub const TUPLE_EXPR: SyntaxKind = 303;
 
-pub const TUPLE_FIELD_LIST: u16 = 305;
+pub const TUPLE_FIELD: SyntaxKind = 304;
 
-pub const TUPLE_PAT: u16 = 306;
+pub const TUPLE_FIELD_LIST: SyntaxKind = 305;
 
-pub const TUPLE_STRUCT_PAT: u16 = 307;
+pub const TUPLE_PAT: SyntaxKind = 306;
 
-pub const TUPLE_TYPE: u16 = 308;
+pub const TUPLE_STRUCT_PAT: SyntaxKind = 307;
 
-pub const TYPE_ALIAS: u16 = 309;
+pub const TUPLE_TYPE: SyntaxKind = 308;
 
-pub const TYPE_ANCHOR: u16 = 310;
+pub const TYPE_ALIAS: SyntaxKind = 309;
 
-pub const TYPE_ARG: u16 = 311;
+pub const TYPE_ANCHOR: SyntaxKind = 310;
 
-pub const TYPE_BOUND: u16 = 312;
+pub const TYPE_ARG: SyntaxKind = 311;
 
-pub const TYPE_BOUND_LIST: u16 = 313;
+pub const TYPE_BOUND: SyntaxKind = 312;
 
-pub const TYPE_PARAM: u16 = 314;
+pub const TYPE_BOUND_LIST: SyntaxKind = 313;
 
-pub const UNDERSCORE_EXPR: u16 = 315;
+pub const TYPE_PARAM: SyntaxKind = 314;
 
-pub const UNION: u16 = 316;
+pub const UNDERSCORE_EXPR: SyntaxKind = 315;
 
-pub const UNSAFE_META: u16 = 317;
+pub const UNION: SyntaxKind = 316;
 
-pub const USE: u16 = 318;
+pub const UNSAFE_META: SyntaxKind = 317;
 
-pub const USE_BOUND_GENERIC_ARGS: u16 = 319;
+pub const USE: SyntaxKind = 318;
 
-pub const USE_TREE: u16 = 320;
+pub const USE_BOUND_GENERIC_ARGS: SyntaxKind = 319;
 
-pub const USE_TREE_LIST: u16 = 321;
+pub const USE_TREE: SyntaxKind = 320;
 
-pub const VARIANT: u16 = 322;
+pub const USE_TREE_LIST: SyntaxKind = 321;
 
-pub const VARIANT_LIST: u16 = 323;
+pub const VARIANT: SyntaxKind = 322;
 
-pub const VISIBILITY: u16 = 324;
+pub const VARIANT_LIST: SyntaxKind = 323;
 
-pub const VISIBILITY_INNER: u16 = 325;
+pub const VISIBILITY: SyntaxKind = 324;
 
-pub const WHERE_CLAUSE: u16 = 326;
+pub const VISIBILITY_INNER: SyntaxKind = 325;
 
-pub const WHERE_PRED: u16 = 327;
+pub const WHERE_CLAUSE: SyntaxKind = 326;
 
-pub const WHILE_EXPR: u16 = 328;
+pub const WHERE_PRED: SyntaxKind = 327;
 
-pub const WILDCARD_PAT: u16 = 329;
+pub const WHILE_EXPR: SyntaxKind = 328;
 
-pub const YEET_EXPR: u16 = 330;
+pub const WILDCARD_PAT: SyntaxKind = 329;
 
-pub const YIELD_EXPR: u16 = 331;
+pub const YEET_EXPR: SyntaxKind = 330;
 
-pub const __LAST: u16 = 332;
+pub const YIELD_EXPR: SyntaxKind = 331;
+
+pub const __LAST: SyntaxKind = 332;

@@ -11,7 +11,7 @@ use super::Parser;
 use crate::event::Record;
 use crate::marker::{CompletedMarker, Marker};
 use refusals::Refusal;
-use tokens::syntax_kind::ERROR;
+use tokens::syntax_kind::{ERROR, SyntaxKind};
 
 impl<'a> Parser<'a> {
     /// Starts a node.
@@ -42,7 +42,7 @@ impl<'a> Parser<'a> {
 
 impl Marker {
     /// Makes it a node of this kind, around all that was recorded since.
-    pub fn complete(self, p: &mut Parser, kind: u16) -> Result<CompletedMarker, Refusal>
+    pub fn complete(self, p: &mut Parser, kind: SyntaxKind) -> Result<CompletedMarker, Refusal>
         requires opened { Open self (of p.old) }
         requires named { 0 < kind }
         ensures { Completes self kind p.old p.new result }
@@ -76,7 +76,7 @@ impl Marker {
     pub fn settle(
         self,
         p: &mut Parser,
-        r: Result<Option<u16>, Refusal>,
+        r: Result<Option<SyntaxKind>, Refusal>,
     ) -> Result<Option<CompletedMarker>, Refusal>
         requires opened { Open self (of p.old) }
         requires named { Named r }
@@ -100,7 +100,7 @@ impl Marker {
         self,
         p: &mut Parser,
         r: Result<A, Refusal>,
-        kind: u16,
+        kind: SyntaxKind,
     ) -> Result<CompletedMarker, Refusal>
         requires opened { Open self (of p.old) }
         requires named { 0 < kind }
@@ -120,7 +120,7 @@ impl Marker {
         self,
         p: &mut Parser,
         r: Result<A, Refusal>,
-        kind: u16,
+        kind: SyntaxKind,
     ) -> Result<(), Refusal>
         requires opened { Open self (of p.old) }
         requires named { 0 < kind }
@@ -132,7 +132,7 @@ impl Marker {
 }
 
 impl CompletedMarker {
-    pub fn kind(&self) -> u16
+    pub fn kind(&self) -> SyntaxKind
         ensures { result ≡ self.now.kind }
     {
         self.kind
@@ -157,7 +157,7 @@ impl CompletedMarker {
     }
 
     /// Puts this node alone into one of this kind.
-    pub fn wrap(self, p: &mut Parser, kind: u16) -> Result<CompletedMarker, Refusal>
+    pub fn wrap(self, p: &mut Parser, kind: SyntaxKind) -> Result<CompletedMarker, Refusal>
         requires last { Last self (of p.old) }
         requires named { 0 < kind }
         ensures { Extends by_kind (around (give kind)) self p.old p.new result }

@@ -10,18 +10,18 @@ use super::Parser;
 use crate::event::{EXPECTED_KIND, Record};
 use refusals::Refusal;
 use tokens::composite::{RawTokens, parts, width};
-use tokens::syntax_kind::{EOF, TOMBSTONE};
+use tokens::syntax_kind::{EOF, SyntaxKind, TOMBSTONE};
 
 impl<'a> Parser<'a> {
     /// The kind of the next raw token: EOF at the end.
-    pub fn current(&self) -> u16
+    pub fn current(&self) -> SyntaxKind
         ensures { result ≡ kind_at (env self.now) self.now.place }
     {
         self.input.kind(self.place)
     }
 
     /// The kind of the raw token that is n ahead: EOF past the end.
-    pub fn nth(&self, n: usize) -> u16
+    pub fn nth(&self, n: usize) -> SyntaxKind
         requires { n ≤ 3 }
         ensures { result ≡ kind_at (env self.now) (self.now.place + n) }
     {
@@ -29,7 +29,7 @@ impl<'a> Parser<'a> {
     }
 
     /// A raw token of this kind follows the one at this place, with no space between them.
-    fn follows(&self, place: usize, kind: u16) -> bool
+    fn follows(&self, place: usize, kind: SyntaxKind) -> bool
         requires { place ≤ 4100 }
         ensures { result ≡ follows_at (env self.now) place kind }
     {
@@ -38,7 +38,7 @@ impl<'a> Parser<'a> {
 
     /// A token of this kind begins n raw tokens ahead; asked for `:` at `::`, the answer is yes.
     #[tactic(auto, unfolding(crate::specs::Program::raw_ahead))]
-    pub fn nth_at(&self, n: usize, kind: u16) -> bool
+    pub fn nth_at(&self, n: usize, kind: SyntaxKind) -> bool
         requires { n ≤ 3 }
         ensures { ahead (env self.now) (self.now.place + n) kind ≡ result }
     {
@@ -57,35 +57,35 @@ impl<'a> Parser<'a> {
     }
 
     /// A token of this kind is next.
-    pub fn at(&self, kind: u16) -> bool
+    pub fn at(&self, kind: SyntaxKind) -> bool
         ensures { ahead (env self.now) self.now.place kind ≡ result }
     {
         self.nth_at(0, kind)
     }
 
     /// A token of this kind is next, before the end.
-    fn is_present(&self, kind: u16) -> bool
+    fn is_present(&self, kind: SyntaxKind) -> bool
         ensures { present (env self.now) self.now.place kind ≡ result }
     {
         self.current() != EOF && self.at(kind)
     }
 
     /// The next raw token may be read as this keyword.
-    pub fn at_contextual_kw(&self, kw: u16) -> bool
+    pub fn at_contextual_kw(&self, kw: SyntaxKind) -> bool
         ensures { (contextual_at (env self.now) self.now.place == kw) ≡ result }
     {
         self.input.contextual_kind(self.place) == kw
     }
 
     /// The next raw token, before the end, may be read as this keyword, which is not the end.
-    fn is_readable(&self, kw: u16) -> bool
+    fn is_readable(&self, kw: SyntaxKind) -> bool
         ensures { readable (env self.now) self.now.place kw ≡ result }
     {
         self.current() != EOF && kw != EOF && self.at_contextual_kw(kw)
     }
 
     /// The raw token that is n ahead may be read as this keyword.
-    pub fn nth_at_contextual_kw(&self, n: usize, kw: u16) -> bool
+    pub fn nth_at_contextual_kw(&self, n: usize, kw: SyntaxKind) -> bool
         requires { n ≤ 3 }
         ensures { (contextual_at (env self.now) (self.now.place + n) == kw) ≡ result }
     {
@@ -100,7 +100,7 @@ impl<'a> Parser<'a> {
     }
 
     /// Takes a token of this kind, which the next raw tokens are known to spell.
-    fn do_bump(&mut self, kind: u16, width: u8) -> Result<(), Refusal>
+    fn do_bump(&mut self, kind: SyntaxKind, width: u8) -> Result<(), Refusal>
         requires { spells (env self.old) self.old.place kind width ≡ true }
         ensures { Meets (take kind width) self.old self.new result }
     {
@@ -121,7 +121,7 @@ impl<'a> Parser<'a> {
     }
 
     /// Takes a token of this kind, which is next.
-    pub fn bump(&mut self, kind: u16) -> Result<(), Refusal>
+    pub fn bump(&mut self, kind: SyntaxKind) -> Result<(), Refusal>
         requires { present (env self.old) self.old.place kind ≡ true }
         ensures { Meets (bumps kind) self.old self.new result }
     {
@@ -129,7 +129,7 @@ impl<'a> Parser<'a> {
     }
 
     /// Takes a token of this kind, if it is next; answers whether it was.
-    pub fn eat(&mut self, kind: u16) -> Result<bool, Refusal>
+    pub fn eat(&mut self, kind: SyntaxKind) -> Result<bool, Refusal>
         ensures { Meets (eats kind) self.old self.new result }
     {
         if !self.is_present(kind) {
@@ -140,7 +140,7 @@ impl<'a> Parser<'a> {
     }
 
     /// Takes the next raw token as this keyword, which it can be read as.
-    pub fn bump_remap(&mut self, kind: u16) -> Result<(), Refusal>
+    pub fn bump_remap(&mut self, kind: SyntaxKind) -> Result<(), Refusal>
         requires { readable (env self.old) self.old.place kind ≡ true }
         ensures { Meets (bump_remap kind) self.old self.new result }
     {
@@ -148,7 +148,7 @@ impl<'a> Parser<'a> {
     }
 
     /// Takes the next raw token as this keyword, if it can be read so; answers whether it can.
-    pub fn eat_contextual_kw(&mut self, kind: u16) -> Result<bool, Refusal>
+    pub fn eat_contextual_kw(&mut self, kind: SyntaxKind) -> Result<bool, Refusal>
         ensures { Meets (eat_contextual kind) self.old self.new result }
     {
         if !self.is_readable(kind) {
@@ -169,7 +169,7 @@ impl<'a> Parser<'a> {
     }
 
     /// Records that a token of this kind was expected.
-    pub fn expected(&mut self, kind: u16) -> Result<(), Refusal>
+    pub fn expected(&mut self, kind: SyntaxKind) -> Result<(), Refusal>
         ensures { Meets (fault expected_kind kind) self.old self.new result }
     {
         self.push(Record::Error {
@@ -179,7 +179,7 @@ impl<'a> Parser<'a> {
     }
 
     /// Takes a token of this kind, or records that it was expected; answers whether it was there.
-    pub fn expect(&mut self, kind: u16) -> Result<bool, Refusal>
+    pub fn expect(&mut self, kind: SyntaxKind) -> Result<bool, Refusal>
         ensures { Meets (expects kind) self.old self.new result }
     {
         if self.eat(kind)? {

@@ -7,7 +7,7 @@ ghost use Rattle.tokens.specs.Sets.{has};
 ghost use Rattle.tokens.specs.TokenSets.{holds};
 
 use super::TokenSet;
-use crate::syntax_kind::SHEBANG;
+use crate::syntax_kind::{SHEBANG, SyntaxKind};
 
 impl TokenSet {
     pub const EMPTY: TokenSet = TokenSet { words: [0; 3] };
@@ -34,7 +34,7 @@ impl TokenSet {
     }
 
     /// Whether the kind is in the set. None above SHEBANG is.
-    pub fn contains(&self, kind: u16) -> bool
+    pub fn contains(&self, kind: SyntaxKind) -> bool
         ensures member { holds self.now kind ≡ result }
         ensures token { last_token_kind < kind → result ≡ false }
     {
@@ -46,14 +46,14 @@ impl TokenSet {
 }
 
 /// The bit of a kind in its word.
-fn mask(kind: u16) -> u64
+fn mask(kind: SyntaxKind) -> u64
     ensures { result ≡ 2 ^ (kind % 64) }
 {
     1 << (kind % 64)
 }
 
 /// Whether the bit of a kind is set in its word.
-fn has_bit(word: u64, kind: u16) -> bool
+fn has_bit(word: u64, kind: SyntaxKind) -> bool
     ensures { (word / 2 ^ (kind % 64) % 2 == 1) ≡ result }
 {
     (word >> (kind % 64)) % 2 == 1

@@ -7,20 +7,6 @@ use Rattle.event_log.proofs.marker.CompletedMarker.precede.Goals as goal
 pub returns-in_err-m : goal.returns-in_err-m
 returns-in_err-m c b n h = no_precede c.in_err-m.ensures _ c.from_residual.ensures.1
 
-pub overflow_sub-p : goal.overflow_sub-p
-overflow_sub-p c = below c.requires c.in_ok-m.ensures
-
-pub overflow_cast-p : goal.overflow_cast-p
-overflow_cast-p c =
-    let p = c.args.p.now in
-    omega (arith, started_at c.in_ok-m.ensures, counted p, p.within, p.roomy, p.short)
-
-pub bounds-p-start : goal.bounds-p-start
-bounds-p-start c =
-    let p = c.args.p.now in
-    let q = c.start.new.self in
-    omega (arith, start_below c.requires, counted p, count_started p q c.in_ok-m.ensures, q.within, q.roomy)
-
 pub invariant_of-p : goal.invariant_of-p
 invariant_of-p c =
     let p = c.args.p.now in

@@ -7,12 +7,6 @@ use Rattle.event_log.proofs.marker.Marker.complete.Goals as goal
 pub returns-in_err-push : goal.returns-in_err-push
 returns-in_err-push c b rs w i = no_complete c.requires.named c.in_err-push.ensures _ c.from_residual.ensures.1 i
 
-pub bounds-p-at : goal.bounds-p-at
-bounds-p-at c =
-    let p = c.args.p.now in
-    let q = c.push.new.self in
-    omega (arith, c.requires.opened, counted p, count_pushed p q c.in_ok-push.ensures, q.within, q.roomy)
-
 pub invariant_of-p : goal.invariant_of-p
 invariant_of-p c =
     let p = c.args.p.now in

@@ -7,13 +7,6 @@ use Rattle.event_log.proofs.parser.Parser.do_bump.Goals as goal
 pub returns-in_err-push : goal.returns-in_err-push
 returns-in_err-push c = not_taken c.requires c.in_err-push.ensures _ c.from_residual.ensures.1
 
-pub overflow_add-self : goal.overflow_add-self
-overflow_add-self c =
-    let p = c.args.self.now in
-    let h = pushed_within c.args.width c.in_ok-push.ensures (spelt_within (env p) p.place c.args.kind c.args.width c.requires) in
-    let few = c.push.new.self.few in
-    search rules
-
 pub invariant_of-self : goal.invariant_of-self
 invariant_of-self c =
     let p = c.args.self.now in
