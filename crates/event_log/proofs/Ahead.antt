@@ -1,7 +1,7 @@
 -- Which tokens are next.
-use Rattle.std.proofs.Common.{◌≡◌, ℕ, ◌+◌, ◌<◌, ◌≤◌, Bool, true, false, not, ◌&&◌, eqb, length, sym, refl, ap, ◌∙◌, ⊎_elim, arith}
+use Rattle.std.proofs.Common.{◌≡◌, ℕ, ◌+◌, ◌<◌, ◌≤◌, Bool, true, false, not, ◌&&◌, eqb, length, sym, refl, ◌∙◌, ⊎_elim, arith}
 use Rattle.std.proofs.lemmas.List.{get_or_past}
-use Rattle.std.proofs.lemmas.Bool.{and_left, and_right, and_from, and_parts, or_left, or_right, or_cases, ne_eqb, eq-eqb, eqb-true, eqb-false, not-true, cases_lt, not_from_false, cond_both}
+use Rattle.std.proofs.lemmas.Bool.{and_from, and_parts, or_left, or_right, or_cases, ne_eqb, eq-eqb, eqb-true, eqb-false, not-true, cases_lt, not_from_false}
 use Rattle.tokens.specs.Kinds.{EOF}
 use Rattle.tokens.specs.declared.composite.RawTokens.{RawTokens}
 use Rattle.tokens.specs.declared.composite.RawTokens.TheVariants.{One, Two, Three}
@@ -30,9 +30,6 @@ spells_raw e i k n h = or_left _ _ (and_from true (not (eqb (kind_at e i) EOF) &
 pub readable_as : (e : Env) (i k : ℕ) → (kind_at e i ≡ EOF → ⊥) → (k ≡ EOF → ⊥) → eqb (contextual_at e i) k ≡ true → readable e i k ≡ true
 readable_as e i k n m h = and_from _ _ (not_from_false _ (ne_eqb _ _ n)) (and_from _ _ (not_from_false _ (ne_eqb _ _ m)) h)
 
-pub readable_is : (e : Env) (i k : ℕ) → (kind_at e i ≡ EOF → ⊥) → (k ≡ EOF → ⊥) → contextual_at e i ≡ k → readable e i k ≡ true
-readable_is e i k n m h = readable_as e i k n m (eq-eqb _ _ h)
-
 -- what can be read as a keyword is there
 pub readable_there : (e : Env) (i k : ℕ) → readable e i k ≡ true → eqb (kind_at e i) EOF ≡ false
 readable_there e i k h = not-true _ (and_parts (not (eqb (kind_at e i) EOF)) _ h).0
@@ -40,9 +37,6 @@ readable_there e i k h = not-true _ (and_parts (not (eqb (kind_at e i) EOF)) _ h
 pub spells_readable : (e : Env) (i k : ℕ) → readable e i k ≡ true → spells e i k 1 ≡ true
 unfolding spells
 spells_readable e i k h = or_right (eqb 1 1 && (not (eqb (kind_at e i) EOF) && eqb (kind_at e i) k)) _ (or_left (true && readable e i k) _ h)
-
-pub present_is : (e : Env) (i k : ℕ) → (kind_at e i ≡ EOF → ⊥) → ahead e i k ≡ true → present e i k ≡ true
-present_is e i k n h = and_from _ _ (not_from_false _ (ne_eqb _ _ n)) h
 
 pub spells_present : (e : Env) (i k w : ℕ) → w ≡ width k → present e i k ≡ true → spells e i k w ≡ true
 unfolding spells

@@ -12,7 +12,7 @@ use Rattle.tokens.specs.Kinds.{EOF}
 use Rattle.tokens.specs.Islands.{answer_of, no_row, lawful_answer, rows_fit}
 use Rattle.tokens.proofs.Laws.{row_lawful, kind_of_node}
 use Rattle.event_log.specs.Program.{Env, kind_at}
-use Rattle.event_log.specs.Steps.{Step, complete, bump_any, err}
+use Rattle.event_log.specs.Steps.{Step, complete, bump_any}
 use Rattle.event_log.specs.Island.{answer_at, answer_at_end, bumps, island_node, island_inside}
 use Rattle.event_log.proofs.Ahead.{within}
 use Rattle.event_log.proofs.Kit.{gives, then, exits}
@@ -57,9 +57,6 @@ kind_named e i h {k = k} fit p q = go (eqb (kind_at e i) EOF) refl
 as_many : {m n : ℕ} {s t : State} {r : Result (Unit {0}) Refusal} → m ≡ n → Does (bumps m) s t r → Does (bumps n) s t r
 as_many e h = rw e at h
 
-pub bumps_first : (n : ℕ) {s t : State} {r : Result (Unit {0}) Refusal} → Does (bumps (n - 0)) s t r → Does (bumps n) s t r
-bumps_first n h = as_many (omega arith) h
-
 one_more : (n i : ℕ) → i < n → suc (n - (i + 1)) ≡ n - i
 one_more n i lt = omega arith
 
@@ -82,10 +79,6 @@ in_node e h = rw e h
 
 pub bare : {k : Option ℕ} {m : Step} {s t : State} {r : Result (Unit {0}) Refusal} → k ≡ None → Does m s t r → Does (island_node k m) s t r
 bare e h = rw e h
-
--- an error of this number
-pub err_as : {m n : ℕ} {s t : State} {r : Result (Unit {0}) Refusal} → m ≡ n → Does (err m) s t r → Does (err n) s t r
-err_as e h = rw e at h
 
 -- what an answer comes to by another name
 pub island_by : (h : Hook) {a b : Answer} {s t : State} {r : Result (Unit {0}) Refusal} → a ≡ b → Does (island_node a.kind (island_inside h a)) s t r → Does (island_node b.kind (island_inside h b)) s t r

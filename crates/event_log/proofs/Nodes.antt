@@ -33,9 +33,6 @@ starts at (pushed lt g) = started at lt g
 pub count_pushed : {r : Record} (p q : Parser) {x : Unit {0}} → Pushes r (of p) (of q) (Ok x) → q.count ≡ p.count + 1
 count_pushed p q (pushed lt g) = omega (arith, counted p, counted q, records g)
 
-pub started_at : {s t : State} {m : Marker} → Starts s t (Ok m) → m.at ≡ length s.recs
-started_at (started at lt g) = at
-
 pub count_started : (p q : Parser) {m : Marker} → Starts (of p) (of q) (Ok m) → q.count ≡ p.count + 1
 count_started p q (started at lt g) = omega (arith, counted p, counted q, records g)
 

@@ -4,7 +4,5 @@ pub mod Runs
 pub mod Lawful
 -- the hosts are lawful
 pub mod HostLaws
--- blocks
-pub mod Blocks
 -- filling rows
 pub mod Filling

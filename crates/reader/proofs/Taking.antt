@@ -58,9 +58,6 @@ ended {l} {m} (performed f a e h tokens clean) z = record {
     place : m.place ≡ l.place
     place = h.place ∙ omega (arith, tokens, z)
 
-pub same_tokens : {l m : Parser} {t : Taken} → Performs bump_any l m (Ok t) → env m ≡ env l
-same_tokens (performed f a e h tokens clean) = h.same
-
 -- after others
 pub after : {k l m : Parser} → env l ≡ env k → AllTaken l m → AllTaken k m
 after e h = record { same = h.same ∙ e; ended = h.ended }

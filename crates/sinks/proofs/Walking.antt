@@ -18,10 +18,6 @@ pub fresh : (rs : List Record) (l : List ℕ) {xs : List ℕ} → length rs ≤ 
     → used (length rs) (xs ++ drop (length rs) l) ≡ unused rs
 fresh rs l h e = ap (used (length rs)) (filled (length rs) l h e) ∙ used_none rs l
 
--- the same records, by another name
-pub tells_of : {size : Item → ℕ} {qs rs : List Record} {s t : Heard} {r : Result (Unit {0}) Refusal} → qs ≡ rs → TellsAll size qs s t r → TellsAll size rs s t r
-tells_of e h = rw e at h
-
 pub walks_of : {size : Item → ℕ} {qs rs : List Record} {l m : List ℕ} {s t : Heard} {r : Result (Unit {0}) Refusal} → qs ≡ rs → Walks size qs l m s t r → Walks size rs l m s t r
 walks_of e h = rw e at h
 

@@ -16,9 +16,6 @@ returns-in_err-check_kinds c =
     broke _ c.from_residual.ensures.1
     ∙ by_kinds c.args.input c.args.records c.if-input-gt-MAX_TOKENS.false c.if-not-lengths_fit.ensures c.in_err-check_kinds.ensures
 
-pub check_contextual-requires : goal.check_contextual-requires
-check_contextual-requires c = same_length c.args.input c.args.records c.if-not-lengths_fit.ensures
-
 pub returns-in_err-check_contextual : goal.returns-in_err-check_contextual
 returns-in_err-check_contextual c =
     broke _ c.from_residual-in_err-check_contextual.ensures.1

@@ -3,9 +3,6 @@ use Rattle.grammar.specs.Each.Checks.{fine, refused}
 use Rattle.grammar.proofs.Firsts.{one_more}
 use Rattle.grammar.proofs.check.check_each.Goals as goal
 
-pub loop-place-init : goal.loop-place-init
-loop-place-init g c i lt = absurd (omega arith)
-
 pub returns-then-wrong : goal.returns-then-wrong
 returns-then-wrong g c =
     refused c.loop-place.invariant c.loop-place-test.true (record { entry = _; stands = c.index-column-place.is; says = c.if-wrong.ensures }) c.refusal.ensures

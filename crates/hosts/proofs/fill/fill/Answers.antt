@@ -1,7 +1,5 @@
-use Rattle.std.proofs.Common.{◌≡◌, ◌<◌, length, refl, arith, rules}
-use Rattle.hosts.specs.Host.{columns}
-use Rattle.hosts.specs.Fill.{row_of}
-use Rattle.hosts.proofs.Filling.{filled_none, filled_more, fill_all, fill_refused}
+use Rattle.std.proofs.Common.{◌≡◌, length, refl, arith}
+use Rattle.hosts.proofs.Filling.{fill_all, fill_refused}
 use Rattle.hosts.proofs.fill.fill.Goals as goal
 
 pub returns-in_err-check_rows : goal.returns-in_err-check_rows

@@ -1,7 +1,7 @@
 use Rattle.std.proofs.Common.{◌<◌, refl, arith, length-set}
 use lib.Seq.{take-set-lt}
 use Rattle.event_log.proofs.Slots.{counted, kept, blanks_set}
-use Rattle.event_log.proofs.Nodes.{started_at, count_started, no_precede, start_below, below, precedes}
+use Rattle.event_log.proofs.Nodes.{count_started, no_precede, start_below, precedes}
 use Rattle.event_log.proofs.marker.CompletedMarker.precede.Goals as goal
 
 pub returns-in_err-m : goal.returns-in_err-m

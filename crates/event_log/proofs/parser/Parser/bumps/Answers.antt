@@ -1,4 +1,4 @@
-use Rattle.event_log.proofs.Islands.{bumps_first, bumps_again, bumps_exit, bumps_last}
+use Rattle.event_log.proofs.Islands.{bumps_again, bumps_exit, bumps_last}
 use Rattle.event_log.proofs.parser.Parser.bumps.Goals as goal
 
 pub returns-in_err-bump_any : goal.returns-in_err-bump_any

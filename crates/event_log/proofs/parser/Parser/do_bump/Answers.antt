@@ -1,4 +1,4 @@
-use Rattle.std.proofs.Common.{refl, rules}
+use Rattle.std.proofs.Common.{refl}
 use Rattle.event_log.specs.Model.{env}
 use Rattle.event_log.proofs.Kit.{taken, not_taken, pushed_within}
 use Rattle.event_log.proofs.Ahead.{spelt_within}
