@@ -7,6 +7,7 @@ use Rattle.tokens.specs.declared.input.Input.{Input}
 use Rattle.tokens.specs.declared.rows.Row.{Row}
 use Rattle.refusals.specs.declared.Refusal.{Refusal}
 use Rattle.event_log.specs.declared.parser.Parser.{Parser}
+use Rattle.event_log.specs.declared.records.Log.{Log}
 use Rattle.event_log.specs.declared.records.Taken.{Taken}
 use Rattle.event_log.specs.declared.records.Checkpoint.{Checkpoint}
 use Rattle.tokens.specs.Islands.{rows_fit}
@@ -95,6 +96,23 @@ pub record Holds (l m : Parser) (rs : List Record) (i : ℕ) : Type 0 where
   pub count : m.count ≡ length rs
   pub place : m.place ≡ i
   pub same : env m ≡ env l
+
+-- the tokens and the rows of a log, and room for all its records
+abbrev pub env_before : Log → Env
+env_before l = env_with_rows l.input l.rows.now (length l.records.now)
+
+-- A log of so many records, all blank, for these tokens, with these rows.
+pub record BlankLog (input : Input) (rows : List Row) (n : ℕ) (l : Log) : Type 0 where
+  pub log : l.records.now ≡ replicate n blank
+  pub same : env_before l ≡ env_with_rows input rows n
+
+-- A parser before the first token of a log, with the records as they are.
+pub record Resumes (l : Log) (p : Parser) : Type 0 where
+  pub log : p.records.now ≡ l.records.now
+  pub count : p.count ≡ 0
+  pub place : p.place ≡ 0
+  pub clean : p.clean ≡ true
+  pub same : env p ≡ env_before l
 
 -- A parser before the first of these tokens, with so many records, all blank.
 pub record New (input : Input) (n : ℕ) (l : Parser) : Type 0 where

@@ -1,17 +1,38 @@
 -- A reading from call to call: that some list of calls has led to it.
-use Rattle.std.proofs.Common.{◌≡◌, ℕ, List, [], ◌∷◌, ◌++◌, map, length, take, Result, sym, refl, ap, ◌∙◌, take_at}
+use Rattle.std.proofs.Common.{◌≡◌, ℕ, List, [], ◌∷◌, ◌++◌, map, length, take, None, Result, sym, refl, ap, ◌∙◌, take_at}
+use Rattle.std.proofs.lemmas.List.{length-replicate}
 use mathlib.Core.Logic.{∥∥₁_map}
 use Rattle.event_log.specs.declared.event.Record.{Record}
 use Rattle.event_log.specs.declared.parser.Parser.{Parser}
+use Rattle.event_log.specs.declared.records.Log.{Log}
 use Rattle.event_log.specs.declared.records.Taken.{Taken}
+use Rattle.tokens.specs.declared.input.Input.{Input}
+use Rattle.tokens.specs.declared.rows.Row.{Row}
 use Rattle.refusals.specs.declared.Refusal.{Refusal}
 use Rattle.event_log.specs.Program.{Env, Prog, Out, run}
 use Rattle.event_log.specs.Program.Out.{ok, no}
-use Rattle.event_log.specs.Model.{of, env, Holds, Performs}
+use Rattle.event_log.specs.Forest.{blank}
+use Rattle.event_log.specs.Sound.{Few, Short}
+use Rattle.event_log.specs.Model.{of, env, BlankLog, Resumes, New, NewWithRows, Holds, Performs}
+use Rattle.grammar.specs.Verdict.{verdict}
+use Rattle.grammar.proofs.Verdicts.{few_tokens, few_records}
 use Rattle.event_log.specs.Model.Performs.{performed, refused}
 use Rattle.event_log.specs.Reading.{Call as program_call, Reading, begun, kept, called, after}
 use Rattle.event_log.specs.Reading.Call.{call}
 use Rattle.grammar.specs.Calls.{Call, program, seen, Leads, Reached}
+
+-- A blank log that a parser goes on with
+
+pub new_by : {i : Input} {n : ℕ} {l : Log} {p : Parser} → BlankLog i [] n l → Resumes l p → New i n p
+new_by b r = record { log = r.log ∙ b.log; count = r.count; place = r.place; clean = r.clean; same = r.same ∙ b.same }
+
+pub new_with_rows_by : {i : Input} {rows : List Row} {n : ℕ} {l : Log} {p : Parser} → BlankLog i rows n l → Resumes l p → NewWithRows i rows n p
+new_with_rows_by b r = record { log = r.log ∙ b.log; count = r.count; place = r.place; clean = r.clean; same = r.same ∙ b.same }
+
+-- columns that are not refused are few, and so are the records
+pub few_of : {i : Input} {rows : List Row} {n : ℕ} {l : Log} → BlankLog i rows n l → verdict i n ≡ None → Few l.input.kinds.now × Short l.records.now
+few_of {i} {rows} {n} b v =
+    (rw (ap (λ (e : Env). length e.kinds) b.same) (few_tokens i n v), rw (ap length b.log ∙ length-replicate n blank) (few_records i n v))
 
 -- No calls lead to a parser that nothing was recorded in yet.
 pub reached_none : (l : Parser) → l.count ≡ 0 → l.place ≡ 0 → Reached l

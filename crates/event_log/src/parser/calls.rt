@@ -2,14 +2,12 @@
 
 ghost use Rattle.std.specs.Prelude.{◌≡◌, ◌-◌, ◌≤◌, ◌&&◌, [], ◌∷◌, length, nat_lt};
 ghost use Rattle.event_log.specs.Sound.{Few, Short};
-ghost use Rattle.event_log.specs.Model.{of, faultless, New, NewWithRows, Pushes, Begins, blanked, Since, Concludes, PutsBack};
+ghost use Rattle.event_log.specs.Model.{of, faultless, Resumes, Pushes, Begins, blanked, Since, Concludes, PutsBack};
 
 use super::Parser;
 use crate::event::Record;
-use crate::records::{Checkpoint, Taken};
+use crate::records::{Checkpoint, Log, Taken};
 use refusals::Refusal;
-use tokens::input::Input;
-use tokens::rows::Row;
 
 fn stays_clean(clean: bool, entry: Record) -> bool
     ensures { result ≡ (clean && faultless (entry ∷ [])) }
@@ -27,23 +25,18 @@ fn blank(records: &mut [Record], from: usize, to: usize)
 }
 
 impl<'a> Parser<'a> {
-    /// Before the first token, with all of these records blank, and with no rows.
-    pub fn new(input: Input<'a>, records: &'a mut [Record]) -> Parser<'a>
-        requires few { Few input.kinds.now }
-        requires short { Short records.old }
-        ensures { New input.entry (length records.old) result }
+    /// Goes on with a log, before the first token.
+    pub fn resume(log: Log<'a>) -> Parser<'a>
+        requires few { Few log.input.kinds.now }
+        requires short { Short log.records.now }
+        ensures { Resumes log.entry result }
     {
-        Parser::with_rows(input, &[], records)
-    }
-
-    /// The same, with what these rows answer at each token.
-    pub fn with_rows(input: Input<'a>, rows: &'a [Row], records: &'a mut [Record]) -> Parser<'a>
-        requires few { Few input.kinds.now }
-        requires short { Short records.old }
-        ensures { NewWithRows input.entry rows.now (length records.old) result }
-    {
+        let Log {
+            input,
+            rows,
+            records,
+        } = log;
         let room = records.len();
-        records.fill(Record::BLANK);
         Parser {
             input,
             rows,

@@ -10,7 +10,7 @@ use super::{Reading, Unopened};
 use crate::check::{check, check_with_rows};
 use event_log::event::Record;
 use event_log::parser::Parser;
-use event_log::records::Taken;
+use event_log::records::{Log, Taken};
 use refusals::Refusal;
 use tokens::input::Input;
 use tokens::rows::Row;
@@ -25,7 +25,7 @@ fn empty<'a>() -> Parser<'a>
         joint: &[],
         editions: &[],
     };
-    Parser::new(input, &mut [])
+    Parser::resume(Log::new(input, &mut []))
 }
 
 /// Why these columns cannot be read into these records, if so.
@@ -64,7 +64,7 @@ impl<'a> Reading<'a> {
         if let Err(refusal) = refusal_of(input, records) {
             return Err(Unopened { refusal, records });
         }
-        self.parser = Parser::new(input, records);
+        self.parser = Parser::resume(Log::new(input, records));
         Ok(())
     }
 
@@ -80,7 +80,7 @@ impl<'a> Reading<'a> {
         if let Err(refusal) = refusal_with_rows(input, rows, records) {
             return Err(Unopened { refusal, records });
         }
-        self.parser = Parser::with_rows(input, rows, records);
+        self.parser = Parser::resume(Log::with_rows(input, rows, records));
         Ok(())
     }
 

@@ -1,7 +1,7 @@
 use Rattle.std.proofs.Common.{refl}
 use Rattle.std.proofs.Common.{◌∙◌}
 use Rattle.grammar.specs.Verdict.{fault}
-use Rattle.grammar.proofs.Verdicts.{by_tokens, by_lengths, by_kinds, by_contextual, by_editions, same_length, broke}
+use Rattle.grammar.proofs.Verdicts.{by_tokens, by_lengths, by_kinds, by_contextual, by_editions, broke}
 use Rattle.grammar.proofs.check.check.Goals as goal
 
 pub returns-then-input-gt-MAX_TOKENS : goal.returns-then-input-gt-MAX_TOKENS

@@ -32,8 +32,3 @@ returns-clause-marks_used c =
     let inv = c.loop-next.invariant in
     let t : Top c.args.self.now.records.now c.loop-next.last.at = onward _ _ c.loop-next.last.here inv.0 c.in_default.ensures.place in
     sym (t.marked (used (length rs) ms) (length_used (length rs) ms (omega (arith, c.requires, c.loop-next.auto.marks)))) ∙ inv.3
-
-pub loop-next-smaller : goal.loop-next-smaller
-loop-next-smaller c =
-    let n : Next c.args.self.now.records.now c.loop-next.last.at c.in-Some.next.at = onward _ _ c.loop-next.last.here c.loop-next.invariant.0 c.in-Some.ensures.place in
-    omega (arith, n.further, n.within)
