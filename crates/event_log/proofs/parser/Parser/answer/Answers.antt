@@ -10,11 +10,6 @@ returns-then-current-eq-EOF c =
     let p = c.args.self.now in
     c.answer_at_end.ensures ∙ sym (no_answer (env p) p.place c.args.hook (at_end c.current.ensures c.if-current-eq-EOF.true))
 
-pub bounds-self-self : goal.bounds-self-self
-bounds-self-self c =
-    let p = c.args.self.now in
-    omega (arith, within (env p) p.place (λ e. c.if-current-eq-EOF.false (c.current.ensures ∙ e)), as_many_rows p.input.kinds.now p.rows.now c.requires)
-
 pub returns : goal.returns
 returns c =
     let p = c.args.self.now in

@@ -1,8 +1,5 @@
-use Rattle.event_log.proofs.Islands.{bumps_first, bumps_again, bumps_exit, bumps_last}
+use Rattle.event_log.proofs.Islands.{bumps_again, bumps_exit, bumps_last}
 use Rattle.event_log.proofs.parser.Parser.bumps.Goals as goal
-
-pub loop-init : goal.loop-init
-loop-init c u r h = bumps_first c.args.tokens h
 
 pub returns-in_err-bump_any : goal.returns-in_err-bump_any
 returns-in_err-bump_any c = c.loop.invariant _ _ (bumps_exit c.args.tokens c.loop.counter c.loop-test.true c.in_err-bump_any.ensures _ c.from_residual.ensures.1)
