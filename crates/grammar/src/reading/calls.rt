@@ -1,9 +1,8 @@
 //! The calls on a reading.
 
-ghost use Rattle.std.specs.Prelude.{◌≡◌, length};
+ghost use Rattle.std.specs.Prelude.{◌≡◌};
 ghost use Rattle.event_log.specs.Model.{of, Meets, Performs};
 ghost use Rattle.event_log.specs.Steps.{bump_any};
-ghost use Rattle.grammar.specs.Verdict.{fault, verdict, verdict_with_rows};
 ghost use Rattle.grammar.specs.Open.{Opens, OpensWithRows, Empty};
 
 use super::{Reading, Unopened};
@@ -28,20 +27,6 @@ fn empty<'a>() -> Parser<'a>
     Parser::resume(Log::new(input, &mut []))
 }
 
-/// Why these columns cannot be read into these records, if so.
-fn refusal_of(input: Input, records: &[Record]) -> Result<(), Refusal>
-    ensures { fault result ≡ verdict input.entry (length records.now) }
-{
-    check(input, records.len())
-}
-
-/// Why these columns and rows cannot be read into these records, if so.
-fn refusal_with_rows(input: Input, rows: &[Row], records: &[Record]) -> Result<(), Refusal>
-    ensures { fault result ≡ verdict_with_rows input.entry rows.now (length records.now) }
-{
-    check_with_rows(input, rows, records.len())
-}
-
 /// What `skip` runs.
 fn skip_token(parser: &mut Parser) -> Result<(), Refusal>
     ensures { Meets bump_any parser.old parser.new result }
@@ -61,7 +46,7 @@ impl<'a> Reading<'a> {
     pub fn open(&mut self, input: Input<'a>, records: &'a mut [Record]) -> Result<(), Unopened<'a>>
         ensures { Opens input.entry records.entry self.old self.new result }
     {
-        if let Err(refusal) = refusal_of(input, records) {
+        if let Err(refusal) = check(input, records.len()) {
             return Err(Unopened { refusal, records });
         }
         self.parser = Parser::resume(Log::new(input, records));
@@ -77,7 +62,7 @@ impl<'a> Reading<'a> {
     ) -> Result<(), Unopened<'a>>
         ensures { OpensWithRows input.entry rows.now records.entry self.old self.new result }
     {
-        if let Err(refusal) = refusal_with_rows(input, rows, records) {
+        if let Err(refusal) = check_with_rows(input, rows, records.len()) {
             return Err(Unopened { refusal, records });
         }
         self.parser = Parser::resume(Log::with_rows(input, rows, records));
