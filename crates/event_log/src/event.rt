@@ -1,6 +1,6 @@
 use tokens::syntax_kind::{SyntaxKind, TOMBSTONE};
 
-/// One record of the log.
+/// One record of the log. Its kinds and numbers are numbers, and no enums: records with any numbers can be told, and a listing prints them.
 #[derive(Clone, Copy, PartialEq, Eq, Debug)]
 pub enum Record {
     /// A node begins. `forward` is how many records further on the start of the node lies that precedes this one.

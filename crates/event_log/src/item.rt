@@ -1,6 +1,7 @@
 use tokens::syntax_kind::SyntaxKind;
 
-/// What a log tells whoever builds the tree: nodes as they are entered and left, and between them tokens and errors.
+/// What a log tells whoever builds the tree: nodes as they are entered and left, and between them tokens and errors,
+/// with the numbers of the records, whatever they are.
 #[derive(Clone, Copy, PartialEq, Eq, Debug)]
 pub enum Item {
     /// A node of this kind begins.

@@ -7,7 +7,7 @@ use tokens::syntax_kind::{
     COLON, COMMA, EQ, L_BRACK, L_CURLY, L_PAREN, R_BRACK, R_CURLY, R_PAREN, SEMICOLON, SyntaxKind,
 };
 
-/// What ends a run outside brackets.
+/// What ends a run outside brackets. An enum, and no closure: a closure would have to be tied to its rule by a clause at each call.
 #[derive(Clone, Copy, PartialEq, Eq, Debug)]
 pub enum Stop {
     /// a closing bracket

@@ -28,6 +28,7 @@ const LISTING: usize = 65536;
 fn read_up_to<R: Read>(source: &mut R, buffer: &mut [u8]) -> io::Result<usize>
     ensures { IfOk result (λ n. n ≤ length buffer.old) }
 {
+    // By hand: no method of `Read` fills a slice as far as the input goes, without memory of its own.
     let mut len = 0;
     while len < buffer.len() {
         let n = source.read(&mut buffer[len..])?;

@@ -8,6 +8,7 @@ use crate::syntax_kind::{EOF, SyntaxKind};
 pub const MAX_TOKENS: usize = 4096;
 
 /// The tokens, by lent columns: an entry of each for a token, and a bit of a word, token i at bit i modulo 64 of word i divided by 64.
+/// Columns, and no list of tokens: they are lent as they are, and never copied.
 #[derive(Clone, Copy)]
 pub struct Input<'a> {
     pub kinds: &'a [u16],

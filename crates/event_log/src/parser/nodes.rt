@@ -40,6 +40,8 @@ impl<'a> Parser<'a> {
     }
 }
 
+// Each call asks that its node is open in this log. That ties a marker to a parser, so the type of neither can state it.
+// It asks for a kind above TOMBSTONE, by a clause and no type: kinds are named where nodes are closed, and a clause is seen there at once.
 impl Marker {
     /// Makes it a node of this kind, around all that was recorded since.
     pub fn complete(self, p: &mut Parser, kind: SyntaxKind) -> Result<CompletedMarker, Refusal>

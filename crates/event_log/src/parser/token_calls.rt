@@ -20,6 +20,8 @@ impl<'a> Parser<'a> {
         self.input.kind(self.place)
     }
 
+    // The Rust asserts that it looks at most 3 tokens ahead. So do the clauses of the three calls that are told how far.
+
     /// The kind of the raw token that is n ahead: EOF past the end.
     pub fn nth(&self, n: usize) -> SyntaxKind
         requires { n ≤ 3 }

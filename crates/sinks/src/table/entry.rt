@@ -5,6 +5,7 @@ use event_log::item::Item;
 pub struct Entry {
     pub item: Item,
     /// The number of the enter around the item, counted among all items from 1, or 0 outside of every node.
+    /// An `Option` would make an entry of lent memory half as large again.
     pub node: usize,
 }
 

@@ -56,6 +56,7 @@ impl<'a> Start<'a> {
         ensures marks_used { used (length self.now.records.now) marks.new ≡ mark_chain self.now.records.now self.now.at (used (length self.now.records.now) marks.old) }
         ensures others { drop (length self.now.records.now) marks.new ≡ drop (length self.now.records.now) marks.old }
     {
+        // Followed by hand: `chain` tells kinds, so an iterator would need a definition of its own, of the places on a chain.
         let mut starts = 1;
         let mut last = *self;
         while let Some(next) = last.parent() {
