@@ -18,9 +18,6 @@ use Rattle.event_log.specs.Model.Concludes.{accepted, taken_back}
 pub counted : (p : Parser) → length (of p).recs ≡ p.count
 counted p = length-take-le p.count p.records.now (omega (arith, p.within, p.roomy))
 
-pub kept : (l : List Record) (i : ℕ) (r : Record) {n : ℕ} → n ≤ length l → n ≤ length (set l i r)
-kept l i r h = rw length-set h
-
 -- Past the count there are blanks
 
 blank_is : (r : Record) → is_blank r ≡ true → r ≡ blank

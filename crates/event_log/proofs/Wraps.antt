@@ -1,5 +1,6 @@
 -- How calls that take a completed node, and put others around it, join with each other.
 use Rattle.std.proofs.Common.{◌≡◌, ℕ, suc, ◌+◌, ◌-◌, ◌<◌, ◌≤◌, Bool, true, false, cond, ◌&&◌, List, [], ◌∷◌, ◌++◌, length, IsErrAnd, Some, None, Ok, Err, Result, sym, refl, ap, ◌∙◌, append_assoc, add-zero, arith, length-append}
+use Rattle.std.proofs.Math.Bool.{and_assoc}
 use Rattle.event_log.specs.declared.event.Record.{Record}
 use Rattle.event_log.specs.declared.event.Record.TheVariants.{Finish}
 use Rattle.refusals.specs.declared.Refusal.{Refusal}
@@ -26,7 +27,7 @@ use Rattle.event_log.proofs.Fuel.{settled_ends, wind_more}
 use Rattle.event_log.proofs.Unrolling.{wind_go, wind_stop}
 use Rattle.event_log.proofs.Sizes.{length_flat_node, length_flats}
 use Rattle.event_log.proofs.Due.{due_ok, due_no, completed_ok}
-use Rattle.event_log.proofs.Growth.{faultless_append, and_assoc, grown_then, records}
+use Rattle.event_log.proofs.Growth.{faultless_append, grown_then, records}
 use Rattle.event_log.proofs.Kit.{full_no, inside, opens, begun, ended, refuses, ends, ends_no, gives, then, fails}
 
 -- What precedes a node
