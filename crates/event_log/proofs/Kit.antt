@@ -8,7 +8,7 @@ use Rattle.event_log.specs.declared.marker.Marker.{Marker}
 use Rattle.event_log.specs.Forest.{Forest, ◌<>◌, flat, flats, wide, wides, blank}
 use Rattle.event_log.specs.Forest.Tree.{token, error}
 use Rattle.event_log.specs.Forest.Forest.{nil, cons}
-use Rattle.event_log.specs.Program.{Env, Prog, Out, Turn, size, grow, next, turned, spin, turns, spells, run}
+use Rattle.event_log.specs.Program.{Env, Prog, Out, Turn, size, grow, next, turned, spin, turns, spells, run, ◌>>◌}
 use Rattle.event_log.specs.Program.{completed as completed_at}
 use Rattle.event_log.specs.Program.Prog.{give, stop, ◌>>=◌, here, take, fault, repeat}
 use Rattle.event_log.specs.Program.Out.{ok, no, never}
@@ -54,6 +54,15 @@ then {m = m} {k} (did f e g) (refused rs w d i) = refused (flats f ++ rs) (wides
 pub fails : {A B : Type 0} {m : Prog A} {k : A → Prog B} {s t : State} {e : Refusal} → Does m s t (Err e) → Does (m >>= k) s t (Err e)
 unfolding run next
 fails {k = k} {s} (refused rs w d g) = refused rs w (ap (λ o. next o (λ x. run (k x) s.env) (length s.recs) s.place) d) g
+
+-- an answer in the place of the one that a call gives, and a call that is followed by it
+abbrev pub answers : {A B : Type 0} → B → Result A Refusal → Result B Refusal
+answers b (Ok a) = Ok b
+answers b (Err e) = Err e
+
+pub then_gives : {A B : Type 0} {m : Prog A} {b : B} {s t : State} {r : Result A Refusal} → Does m s t r → Does (m >> give b) s t (answers b r)
+then_gives (did f e g) = then (did f e g) gives
+then_gives (refused rs w e g) = fails (refused rs w e g)
 
 -- the exit of a `?`
 pub exits : {A B : Type 0} {m : Prog A} {k : A → Prog B} {s t : State} {e : Refusal} → Does m s t (Err e) → (r : Result B Refusal) → IsErrAnd r (λ f. f ≡ e) → Does (m >>= k) s t r

@@ -28,7 +28,7 @@ use Rattle.event_log.proofs.Unrolling.{wind_go, wind_stop}
 use Rattle.event_log.proofs.Sizes.{length_flat_node, length_flats}
 use Rattle.event_log.proofs.Due.{due_ok, due_no, completed_ok}
 use Rattle.event_log.proofs.Growth.{faultless_append, grown_then, records}
-use Rattle.event_log.proofs.Kit.{full_no, inside, opens, begun, ended, refuses, ends, ends_no, gives, then, fails}
+use Rattle.event_log.proofs.Kit.{full_no, inside, opens, begun, ended, refuses, ends, ends_no, gives, then, fails, answers, then_gives}
 
 -- What precedes a node
 
@@ -190,16 +190,7 @@ arounds_by : {body : Prog ℕ} {c : CompletedMarker} {s t u v : State} {m : Mark
 arounds_by {body} f (did g e h) k b n p = let st = leads p (f b n p) in let i = inside st h in around_answers body b n g st e i (k (after b n) (flats g) (wides g) i)
 arounds_by {body} f (refused rs w e h) k b n p = let st = leads p (f b n p) in around_passes body b n st e (k (after b n) rs w (inside st h))
 
--- a body that answers with nothing, and the kind
-abbrev of_kind : {A : Type 0} → ℕ → Result A Refusal → Result ℕ Refusal
-of_kind k (Ok a) = Ok k
-of_kind k (Err e) = Err e
-
-kinded : {A : Type 0} {m : Prog A} {k : ℕ} {s t : State} {r : Result A Refusal} → Does m s t r → Does (m >> give k) s t (of_kind k r)
-kinded (did f e g) = then (did f e g) gives
-kinded (refused rs w e g) = fails (refused rs w e g)
-
-answered : {A : Type 0} {b : State} {rs : List Record} {w k : ℕ} {s t : State} {r : Result A Refusal} {x : Result CompletedMarker Refusal} → Finished b rs w k s t r x → Answered b rs w s t (of_kind k r) x
+answered : {A : Type 0} {b : State} {rs : List Record} {w k : ℕ} {s t : State} {r : Result A Refusal} {x : Result CompletedMarker Refusal} → Finished b rs w k s t r x → Answered b rs w s t (answers k r) x
 answered (finished_so h) = completed h
 answered (passed_on more g) = passed more g
 
@@ -208,7 +199,7 @@ pub arounds : {A : Type 0} {m : Prog A} {k : ℕ} {c : CompletedMarker} {s t u v
     → ((b : State) (n : Node) → Pending b n c s → Led b n s t (Ok a)) → Does m t u r
     → ((b : State) (rs : List Record) (w : ℕ) → Inside b rs w a u → Finished b rs w k u v r x)
     → Precedes by_kind (around (m >> give k)) c s v x
-arounds f d h = arounds_by f (kinded d) (λ b rs w i. answered (h b rs w i))
+arounds f d h = arounds_by f (then_gives d) (λ b rs w i. answered (h b rs w i))
 
 -- the same with no body
 pub arounds_now : {k : ℕ} {c : CompletedMarker} {s t v : State} {m : Marker} {x : Result CompletedMarker Refusal}
