@@ -23,7 +23,6 @@ use Rattle.event_log.specs.Marks.Settled.{completed, uncompleted, abandoned, pas
 use Rattle.event_log.specs.Marks.Finished.{completed as finished_so, passed as passed_on}
 use Rattle.event_log.specs.Marks.Winds.{wound, refused as unwound}
 use Rattle.event_log.specs.Steps.{start, node as node_of, complete}
-use Rattle.event_log.proofs.Sizes.{length_flats}
 use Rattle.event_log.proofs.Due.{due_ok, due_no, completed_ok}
 use Rattle.event_log.proofs.Growth.{still, grown_as, records}
 use Rattle.event_log.proofs.Kit.{full_no, inside, begun, ended, refuses, gives, then, fails, answers, then_gives}
@@ -58,7 +57,7 @@ settled body w {s} f st e i (completed {k = k} (closed nz lt g at to kind)) =
     (chain_is body w st ∙ ap (closed_since w s) e
     ∙ ended f (λ e c i. completed_at e k c i (in_forest (outcome (w k) s (node k f)))) i.grown
     ∙ completed_ok _ k _ _ _ nz lt)
-    (record { grown = g; start = omega (arith, at, records g, length-append (flats f) (Finish ∷ []), length_flats f); end = to; kind = kind })
+    (record { grown = g; start = omega (arith, at, records g, length-append (flats f) (Finish ∷ [])); end = to; kind = kind })
     kind
 settled body w {s} f st e i (uncompleted {k = k} (unclosed more nz why g)) =
     failed more _

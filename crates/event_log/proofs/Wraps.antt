@@ -25,10 +25,10 @@ use Rattle.event_log.specs.Marks.Winds.{wound, refused as unwound}
 use Rattle.event_log.specs.Marks.Led.{led, stuck}
 use Rattle.event_log.proofs.Fuel.{settled_ends, wind_more}
 use Rattle.event_log.proofs.Unrolling.{wind_go, wind_stop}
-use Rattle.event_log.proofs.Sizes.{length_flat_node, length_flats}
+use Rattle.event_log.proofs.Sizes.{length_flat_node}
 use Rattle.event_log.proofs.Due.{due_ok, due_no, completed_ok}
 use Rattle.event_log.proofs.Growth.{faultless_append, grown_then, records}
-use Rattle.event_log.proofs.Kit.{full_no, inside, opens, begun, ended, refuses, ends, ends_no, gives, then, fails, answers, then_gives}
+use Rattle.event_log.proofs.Kit.{full_no, inside, opens, begun, ended, refuses, ends, gives, then, fails, answers, then_gives}
 
 -- What precedes a node
 
@@ -167,7 +167,7 @@ finished body b n {k = k} f st e i (closed nz lt g at to kind) =
     wound (wrap n k f)
     (around_is body b n st ∙ ap (wrapped b.env (length b.recs) b.place n) e ∙ wrapped_is k b n f i.grown ∙ completed_ok _ k _ _ _ nz lt
     ∙ ap (λ (j : ℕ). ok nil (record { held = wrap n k f; answer = j })) (sym kind))
-    (record { grown = grown_then (since b n) g; start = omega (arith, at, records g, length-append (flats f) (Finish ∷ []), length_flats f); end = to; kind = kind })
+    (record { grown = grown_then (since b n) g; start = omega (arith, at, records g, length-append (flats f) (Finish ∷ [])); end = to; kind = kind })
 finished body b n {k = k} f st e i (unclosed more z why g) =
     unwound _ _
     (around_is body b n st ∙ ap (wrapped b.env (length b.recs) b.place n) e ∙ wrapped_is k b n f i.grown ∙ refuses _ z why)
@@ -264,8 +264,8 @@ many_same t body {b} {n} {m} {s = s} {u} k h i e d lt le finite =
     fewer = omega (arith, kinds_same i, h.grown.place, i.grown.place, le, lt)
 
 finite : {X A : Type 0} {show : X → CompletedMarker × A} {w : Wraps A} {b : State} {n : Node} {t : State} {r : Result X Refusal} → Winds show w b n t r → outcome w b n ≡ never → ⊥
-finite (wound m e p) q = ends _ e q
-finite (unwound rs v e g) q = ends_no _ e q
+finite (wound m e p) q = ends _ e tt q
+finite (unwound rs v e g) q = ends _ e tt q
 
 many_on : (t : Env → ℕ → Bool) (body : Prog ℕ) {b : State} {n : Node} {c d : CompletedMarker} {s u v : State} {r : Result CompletedMarker Refusal}
     → Pending b n c s → t s.env s.place ≡ true → Winds by_kind (around body) b n u (Ok d) → s.place < u.place → u.place ≤ length u.env.kinds
