@@ -61,14 +61,11 @@ some_long (One a) = omega arith
 some_long (Two a b) = omega arith
 some_long (Three a b c) = omega arith
 
-width_some : (k : ℕ) → 1 ≤ width k
-width_some k = some_long (parts k)
-
 eat_wide : (k : ℕ) (s : State) (p : Bool) (f : Forest) (b : Bool) → from (cond p (take k (width k) >> give true) (give false)) s ≡ ok f b → p ≡ true → 1 ≤ wides f
 unfolding wides wide
 eat_wide k s true f b e p =
     let q = bind_ok (take k (width k)) (λ _. give true) s.env (length s.recs) s.place f b e in
-    omega (arith, ap wides q.joined, wides_append q.first q.second, ap wides (take_ok k (width k) s.env (length s.recs) s.place q.first q.answered q.ran).2, width_some k)
+    omega (arith, ap wides q.joined, wides_append q.first q.second, ap wides (take_ok k (width k) s.env (length s.recs) s.place q.first q.answered q.ran).2, some_long (parts k))
 eat_wide k s false f b e p = absurd (false≢true p)
 
 eat_true : (k : ℕ) (s : State) (p : Bool) (f : Forest) → from (cond p (take k (width k) >> give true) (give false)) s ≡ ok f true → p ≡ true
