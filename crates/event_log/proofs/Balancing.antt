@@ -1,5 +1,5 @@
 -- What the stack machine matches is balanced, and it matches what a forest tells.
-use Rattle.std.proofs.Common.{◌≡◌, ℕ, zero, suc, ◌+◌, ◌<◌, ◌≤◌, Bool, true, false, cond, eqb, ◌⊎◌, List, [], ◌∷◌, ◌++◌, Some, None, Option, sym, refl, ap, ◌∙◌, subst, inl, inr, append_assoc, append-nil, add-zero, zero-add, arith, eq-eqb, ne_eqb}
+use Rattle.std.proofs.Common.{◌≡◌, ℕ, zero, suc, ◌+◌, ◌<◌, ◌≤◌, Bool, true, false, cond, eqb, ◌⊎◌, List, [], ◌∷◌, ◌++◌, Some, None, Option, sym, refl, ap, ◌∙◌, subst, inl, inr, ⊎_elim, append_assoc, append-nil, add-zero, zero-add, arith, eq-eqb, ne_eqb}
 use Rattle.event_log.specs.Forest.{Tree, Node, Forest}
 use Rattle.event_log.specs.Forest.Tree.{whole, gone}
 use Rattle.event_log.specs.Forest.Node.{node, wrap}
@@ -67,6 +67,10 @@ cond_same : (b : Bool) → ◌≡◌ {A = ℕ} (cond b 0 0) 0
 cond_same true = refl
 cond_same false = refl
 
+-- what lies ahead of the next place lies ahead of this one
+ahead_sooner : (i : ℕ) (os qs : List ℕ) → ((a : ℕ) → In a qs → (i ≤ a) ⊎ In a os) → (ss : List Span) → Each (Ahead (suc i) qs) ss → Each (Ahead i os) ss
+ahead_sooner i os qs h = each_map (Ahead (suc i) qs) (Ahead i os) (λ s a. ((let l = a.0 in omega arith), ⊎_elim (λ l. inl (omega arith)) (h s.first) a.1))
+
 -- nothing is open, and nothing is left
 run_over : (i : ℕ) → Run i [] [] []
 unfolding begin_at end_at open_at from
@@ -77,7 +81,7 @@ unfolding open_at from
 run_enter i os k is ss r = record {
   begun = λ a. r.begun a ∙ omega arith;
   ended = λ a. r.ended a ∙ omega (arith, cond_same (eqb i a));
-  ahead = each_map (Ahead (suc i) (i ∷ os)) (Ahead i os) sooner ss r.ahead;
+  ahead = ahead_sooner i os (i ∷ os) (λ a m. ⊎_elim (λ e. inl (omega arith)) (λ m. inr m) m) ss r.ahead;
   forward = λ u. r.forward (deeper u);
   apart = λ u. r.apart (deeper u);
 }
@@ -85,33 +89,18 @@ run_enter i os k is ss r = record {
     deeper : Under i os → Under (suc i) (i ∷ os)
     deeper u = (omega arith, u)
 
-    side : (a : ℕ) → (suc i ≤ a) ⊎ ((a ≡ i) ⊎ In a os) → (i ≤ a) ⊎ In a os
-    side a (inl h) = inl (omega arith)
-    side a (inr (inl e)) = inl (omega arith)
-    side a (inr (inr m)) = inr m
-
-    sooner : (s : Span) → Ahead (suc i) (i ∷ os) s → Ahead i os s
-    sooner s h = ((let l = h.0 in omega arith), side s.first h.1)
-
 run_leave : (i o : ℕ) (os : List ℕ) (is : List Item) (ss : List Span) → Run (suc i) os is ss → Run i (o ∷ os) (leave ∷ is) (record { first = o; last = i } ∷ ss)
 unfolding open_at from begin_at end_at
 run_leave i o os is ss r = record {
   begun = λ a. omega (arith, r.begun a, cond_same (eqb i a));
   ended = λ a. omega (arith, r.ended a);
-  ahead = ((omega arith, inr (inl refl)), each_map (Ahead (suc i) os) (Ahead i (o ∷ os)) sooner ss r.ahead);
+  ahead = ((omega arith, inr (inl refl)), ahead_sooner i (o ∷ os) os (λ a m. inr (inr m)) ss r.ahead);
   forward = λ u. (u.0, r.forward (shallower u));
   apart = λ u. (each_map (Ahead (suc i) os) (Apart (record { first = o; last = i })) (λ s h. away u s h.0 h.1) ss r.ahead, r.apart (shallower u));
 }
   where
     shallower : Under i (o ∷ os) → Under (suc i) os
     shallower u = under_more o (suc i) os (let h = u.0 in omega arith) u.1
-
-    side : (a : ℕ) → (suc i ≤ a) ⊎ In a os → (i ≤ a) ⊎ ((a ≡ o) ⊎ In a os)
-    side a (inl h) = inl (omega arith)
-    side a (inr m) = inr (inr m)
-
-    sooner : (s : Span) → Ahead (suc i) os s → Ahead i (o ∷ os) s
-    sooner s h = ((let l = h.0 in omega arith), side s.first h.1)
 
     away : Under i (o ∷ os) → (s : Span) → suc i ≤ s.last → (suc i ≤ s.first) ⊎ In s.first os → Apart (record { first = o; last = i }) s
     away u s l (inl h) = inr (inr (inl h))
@@ -123,17 +112,10 @@ unfolding from
 run_other i os x is ss p q r = record {
   begun = λ a. r.begun a ∙ rw p (omega (arith, cond_same (eqb i a)));
   ended = λ a. r.ended a ∙ rw q (omega (arith, cond_same (eqb i a)));
-  ahead = each_map (Ahead (suc i) os) (Ahead i os) sooner ss r.ahead;
+  ahead = ahead_sooner i os os (λ a m. inr m) ss r.ahead;
   forward = λ u. r.forward (under_more i (suc i) os (omega arith) u);
   apart = λ u. r.apart (under_more i (suc i) os (omega arith) u);
 }
-  where
-    side : (a : ℕ) → (suc i ≤ a) ⊎ In a os → (i ≤ a) ⊎ In a os
-    side a (inl h) = inl (omega arith)
-    side a (inr m) = inr m
-
-    sooner : (s : Span) → Ahead (suc i) os s → Ahead i os s
-    sooner s h = ((let l = h.0 in omega arith), side s.first h.1)
 
 on_also : (P Q : List Span → Type 0) (s : Span) → ((ss : List Span) → P ss → Q (s ∷ ss)) → (o : Option (List Span)) → On P o → On Q (also s o)
 on_also P Q s f None h = tt
@@ -199,20 +181,12 @@ unfolding match
 even_node k is h os rest c i =
     rw (append_assoc is (leave ∷ []) rest) (h (i ∷ os) (leave ∷ rest) (λ j. let r = c (suc j) in (record { first = i; last = j } ∷ r.0, ap (also (record { first = i; last = j })) r.1)) (suc i))
 
-even_token : (k w : ℕ) → Even (token k w ∷ [])
-unfolding match
-even_token k w os rest c i = c (suc i)
-
-even_error : (n k : ℕ) → Even (error n k ∷ [])
-unfolding match
-even_error n k os rest c i = c (suc i)
-
 mutual
-  unfolding told_tree told_node told
+  unfolding told_tree told_node told match
 
   tree_even : (t : Tree) → Even (told_tree t)
-  tree_even (Tree.token k w) = even_token k w
-  tree_even (Tree.error n k) = even_error n k
+  tree_even (Tree.token k w) = λ os rest c i. c (suc i)
+  tree_even (Tree.error n k) = λ os rest c i. c (suc i)
   tree_even (whole n) = node_even n
   tree_even (gone f) = forest_even f
 

@@ -23,10 +23,9 @@ use Rattle.event_log.specs.Marks.Settled.{completed, uncompleted, abandoned, pas
 use Rattle.event_log.specs.Marks.Finished.{completed as finished_so, passed as passed_on}
 use Rattle.event_log.specs.Marks.Winds.{wound, refused as unwound}
 use Rattle.event_log.specs.Steps.{start, node as node_of, complete}
-use Rattle.event_log.proofs.Sizes.{length_flats}
 use Rattle.event_log.proofs.Due.{due_ok, due_no, completed_ok}
 use Rattle.event_log.proofs.Growth.{still, grown_as, records}
-use Rattle.event_log.proofs.Kit.{full_no, inside, begun, ended, refuses, gives, then, fails}
+use Rattle.event_log.proofs.Kit.{full_no, inside, begun, ended, refuses, gives, then, fails, answers, then_gives}
 use Rattle.event_log.proofs.Wraps.{outcome, wraps_end}
 
 -- no node could be started
@@ -58,7 +57,7 @@ settled body w {s} f st e i (completed {k = k} (closed nz lt g at to kind)) =
     (chain_is body w st ∙ ap (closed_since w s) e
     ∙ ended f (λ e c i. completed_at e k c i (in_forest (outcome (w k) s (node k f)))) i.grown
     ∙ completed_ok _ k _ _ _ nz lt)
-    (record { grown = g; start = omega (arith, at, records g, length-append (flats f) (Finish ∷ []), length_flats f); end = to; kind = kind })
+    (record { grown = g; start = omega (arith, at, records g, length-append (flats f) (Finish ∷ [])); end = to; kind = kind })
     kind
 settled body w {s} f st e i (uncompleted {k = k} (unclosed more nz why g)) =
     failed more _
@@ -81,21 +80,12 @@ pub settles : {A : Type 0} {body : Prog (Option ℕ)} {w : ℕ → Wraps A} {s t
 settles {body = body} {w} {s} st (did f e g) h = let i = inside st g in settled body w f st e i (h s (flats f) (wides f) i)
 settles {body = body} {w} {s} st (refused rs n e g) h = passes body w st e (h s rs n (inside st g))
 
--- a body that answers with nothing, and the kind
-abbrev of_kind : {A : Type 0} → ℕ → Result A Refusal → Result (Option ℕ) Refusal
-of_kind k (Ok a) = Ok (Some k)
-of_kind k (Err e) = Err e
-
 abbrev pub some_of : Result CompletedMarker Refusal → Result (Option CompletedMarker) Refusal
 some_of (Ok c) = Ok (Some c)
 some_of (Err e) = Err e
 
-kinded : {A : Type 0} {m : Prog A} {k : ℕ} {s t : State} {r : Result A Refusal} → Does m s t r → Does (m >> give (Some k)) s t (of_kind k r)
-kinded (did f e g) = then (did f e g) gives
-kinded (refused rs w e g) = fails (refused rs w e g)
-
 as_settled : {A : Type 0} {b : State} {rs : List Record} {w k : ℕ} {s t : State} {r : Result A Refusal} {x : Result CompletedMarker Refusal}
-    → Finished b rs w k s t r x → Settled b rs w s t (of_kind k r) (some_of x)
+    → Finished b rs w k s t r x → Settled b rs w s t (answers (Some k) r) (some_of x)
 as_settled (finished_so (closed nz lt g at to kind)) = completed (closed nz lt g at to kind)
 as_settled (finished_so (unclosed more nz why g)) = uncompleted (unclosed more nz why g)
 as_settled (passed_on more g) = passed more g
@@ -103,7 +93,7 @@ as_settled (passed_on more g) = passed more g
 -- The same for a node that is finished with this kind
 pub finishes : {A B : Type 0} {m : Prog B} {k : ℕ} {w : ℕ → Wraps A} {s t u v : State} {a : Marker} {r : Result B Refusal} {x : Result CompletedMarker Refusal}
     → Starts s t (Ok a) → Does m t u r → ((b : State) (rs : List Record) (n : ℕ) → Inside b rs n a u → Finished b rs n k u v r x) → Chained (m >> give (Some k)) w s v (some_of x)
-finishes st d h = settles st (kinded d) (λ b rs n i. as_settled (h b rs n i))
+finishes st d h = settles st (then_gives d) (λ b rs n i. as_settled (h b rs n i))
 
 -- in the arms of a match on what was settled
 pub held_some : {A : Type 0} {body : Prog (Option ℕ)} {w : ℕ → Wraps A} {s t : State} {o : Option CompletedMarker} {c : CompletedMarker} → o ≡ Some c → Chained body w s t (Ok o) → Chained body w s t (Ok (Some c))
@@ -206,4 +196,4 @@ pub closes : {A : Type 0} {m : Prog A} {k : ℕ} {s t u v : State} {a : Marker} 
     → Starts s t (Ok a) → Does m t u r
     → ((b : State) (rs : List Record) (n : ℕ) → Inside b rs n a u → (y : Result CompletedMarker Refusal) × Finished b rs n k u v r y × (x ≡ let_go y))
     → Does (complete k m) s v x
-closes st d h = closes_by st (kinded d) (λ b rs n i. let q = h b rs n i in (q.0, as_settled q.1, q.2))
+closes st d h = closes_by st (then_gives d) (λ b rs n i. let q = h b rs n i in (q.0, as_settled q.1, q.2))

@@ -16,18 +16,22 @@ settled_ends never h = h refl
 
 -- ---- `spin`
 
-settled_grow : {B : Type 0} (f : Forest) (o : Out B) → Settled (grow f o) → Settled o
+pub next_eq : {A B : Type 0} (o : Out A) (k l : A → ℕ → ℕ → Out B) (c i : ℕ) → ((f : Forest) (a : A) → o ≡ ok f a → k a (c + size f) (i + wides f) ≡ l a (c + size f) (i + wides f)) → next o k c i ≡ next o l c i
+unfolding next
+next_eq (ok f a) k l c i h = ap (grow f) (h f a refl)
+next_eq (no r) k l c i h = refl
+next_eq never k l c i h = refl
+
+pub settled_grow : {B : Type 0} (f : Forest) (o : Out B) → Settled (grow f o) ≡ Settled o
 unfolding grow
-settled_grow f (ok g b) h = tt
-settled_grow f (no r) h = tt
-settled_grow f never h = h
+settled_grow f (ok g b) = refl
+settled_grow f (no r) = refl
+settled_grow f never = refl
 
 next_same : {A B : Type 0} (o : Out A) (k l : A → ℕ → ℕ → Out B) (c i : ℕ)
     → ((a : A) (d j : ℕ) → Settled (k a d j) → l a d j ≡ k a d j) → Settled (next o k c i) → next o l c i ≡ next o k c i
 unfolding next
-next_same (ok f a) k l c i same h = ap (grow f) (same a (c + size f) (i + wides f) (settled_grow f (k a (c + size f) (i + wides f)) h))
-next_same (no r) k l c i same h = refl
-next_same never k l c i same h = refl
+next_same o k l c i same h = next_eq o l k c i (λ f a e. same a (c + size f) (i + wides f) (rw (settled_grow f (k a (c + size f) (i + wides f))) at (rw e at h)))
 
 turned_same : {S : Type 0} (t : Turn S) (k l : S → ℕ → ℕ → Out S) (c i : ℕ)
     → ((s : S) (d j : ℕ) → Settled (k s d j) → l s d j ≡ k s d j) → Settled (turned t k c i) → turned t l c i ≡ turned t k c i
@@ -44,19 +48,21 @@ spin_more (suc n) (suc m) f s c i l h =
     (λ t d j. turned_same t (spin n f) (spin m f) d j (λ x b a. spin_more n m f x b a (le_of_suc-le-suc l)))
     h
 
-pub spin_ok : {S : Type 0} (n m : ℕ) (f : S → ℕ → ℕ → Out (Turn S)) (s : S) (c i : ℕ) (g : Forest) (a : S) → n ≤ m → spin n f s c i ≡ ok g a → spin m f s c i ≡ ok g a
-spin_ok n m f s c i g a l e = spin_more n m f s c i l (subst Settled (sym e) tt) ∙ e
-
-pub spin_no : {S : Type 0} (n m : ℕ) (f : S → ℕ → ℕ → Out (Turn S)) (s : S) (c i : ℕ) (r : Refusal) → n ≤ m → spin n f s c i ≡ no r → spin m f s c i ≡ no r
-spin_no n m f s c i r l e = spin_more n m f s c i l (subst Settled (sym e) tt) ∙ e
+-- to an answer or a refusal by name
+pub spin_ends : {S : Type 0} (n m : ℕ) (f : S → ℕ → ℕ → Out (Turn S)) (s : S) (c i : ℕ) (o : Out S) → n ≤ m → Settled o → spin n f s c i ≡ o → spin m f s c i ≡ o
+spin_ends n m f s c i o l h e = spin_more n m f s c i l (subst Settled (sym e) h) ∙ e
 
 -- ---- `wind`
 
+pub on_node_eq : {A B : Type 0} (o : Out (Held A)) (k l : A → Node → Out (Held B)) → ((f : Forest) (h : Held A) → o ≡ ok f h → k h.answer h.held ≡ l h.answer h.held) → on_node o k ≡ on_node o l
+unfolding on_node
+on_node_eq (ok f h) k l s = s f h refl
+on_node_eq (no r) k l s = refl
+on_node_eq never k l s = refl
+
 on_node_same : {A B : Type 0} (o : Out (Held A)) (k l : A → Node → Out (Held B)) → ((a : A) (n : Node) → Settled (k a n) → l a n ≡ k a n) → Settled (on_node o k) → on_node o l ≡ on_node o k
 unfolding on_node
-on_node_same (ok f x) k l same h = same x.answer x.held h
-on_node_same (no r) k l same h = refl
-on_node_same never k l same h = refl
+on_node_same o k l same h = on_node_eq o l k (λ f x e. same x.answer x.held (rw e at h))
 
 pub wind_more : (n m : ℕ) (t : Node → Bool) (f : Node → Out (Held ℕ)) (x : Node) → n ≤ m → Settled (wind n t f x) → wind m t f x ≡ wind n t f x
 unfolding wind
@@ -73,8 +79,5 @@ wind_more (suc n) (suc m) t f x l h = go (t x) h (on_node_same (f x) (λ _. wind
     go true s same = same s
     go false s same = refl
 
-pub wind_ok : (n m : ℕ) (t : Node → Bool) (f : Node → Out (Held ℕ)) (x : Node) (g : Forest) (y : Held (Unit {0})) → n ≤ m → wind n t f x ≡ ok g y → wind m t f x ≡ ok g y
-wind_ok n m t f x g y l e = wind_more n m t f x l (subst Settled (sym e) tt) ∙ e
-
-pub wind_no : (n m : ℕ) (t : Node → Bool) (f : Node → Out (Held ℕ)) (x : Node) (r : Refusal) → n ≤ m → wind n t f x ≡ no r → wind m t f x ≡ no r
-wind_no n m t f x r l e = wind_more n m t f x l (subst Settled (sym e) tt) ∙ e
+pub wind_ends : (n m : ℕ) (t : Node → Bool) (f : Node → Out (Held ℕ)) (x : Node) (o : Out (Held (Unit {0}))) → n ≤ m → Settled o → wind n t f x ≡ o → wind m t f x ≡ o
+wind_ends n m t f x o l h e = wind_more n m t f x l (subst Settled (sym e) h) ∙ e

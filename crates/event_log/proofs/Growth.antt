@@ -1,23 +1,12 @@
 -- How a log grows: its records, its place, and whether it is clean.
 use Rattle.std.proofs.Common.{◌≡◌, ℕ, ◌+◌, Bool, true, false, ◌&&◌, List, [], ◌∷◌, ◌++◌, length, Option, sym, refl, ap, ◌∙◌, append_assoc, append-nil, add-zero, add_assoc, length-append}
+use Rattle.std.proofs.Math.Bool.{and-true, and_assoc}
 use Rattle.event_log.specs.declared.event.Record.{Record}
 use Rattle.event_log.specs.declared.event.Record.TheVariants.{Start, Finish, Token, Error}
 use Rattle.event_log.specs.Program.{Env}
 use Rattle.event_log.specs.Model.{State, faultless, Grown}
 
 -- Clean
-
-pub and_true : (b : Bool) → b ≡ (b && true)
-and_true true = refl
-and_true false = refl
-
-pub and_false : (b : Bool) → false ≡ (b && false)
-and_false true = refl
-and_false false = refl
-
-pub and_assoc : (a b c : Bool) → ((a && b) && c) ≡ (a && (b && c))
-and_assoc true b c = refl
-and_assoc false b c = refl
 
 pub faultless_append : (xs ys : List Record) → faultless (xs ++ ys) ≡ (faultless xs && faultless ys)
 unfolding faultless
@@ -44,7 +33,7 @@ faultless_start xs ys j k p q = faultless_append xs (Start j p ∷ ys) ∙ sym (
 
 pub still : (s : State) → Grown s s [] 0
 unfolding faultless
-still s = record { by = sym (append-nil _); place = sym (add-zero _); clean = and_true s.clean; same = refl; long = refl }
+still s = record { by = sym (append-nil _); place = sym (add-zero _); clean = sym (and-true s.clean); same = refl; long = refl }
 
 pub grown_then : {s t u : State} {a b : List Record} {v w : ℕ} → Grown s t a v → Grown t u b w → Grown s u (a ++ b) (v + w)
 grown_then {s} {a = a} {b} {v} {w} g h = record {

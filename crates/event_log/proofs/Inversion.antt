@@ -1,5 +1,6 @@
 -- What a program went through that came to an answer.
 use Rattle.std.proofs.Common.{◌≡◌, ℕ, zero, suc, ◌+◌, ◌<◌, Bool, true, false, cond, ltb, ◌⊎◌, Some, None, Option, sym, refl, ap, ◌∙◌, subst, inl, inr, ⊎_elim, suc-le-suc, zero-le, arith, ltb-true}
+use Rattle.std.proofs.lemmas.Option.{none-some}
 use Rattle.refusals.specs.declared.Refusal.{Refusal}
 use Rattle.refusals.specs.declared.Refusal.TheVariants.{LogFull}
 use Rattle.event_log.specs.Forest.{Node, Forest, ◌<>◌, wides, wide_node, kind_of}
@@ -241,17 +242,14 @@ in_forest_some never f a p = absurd (never≢ok p)
 
 in_forest_none : {A : Type 0} (o : Out (Held A)) (f : Forest) → in_forest o ≡ ok f None → ⊥
 unfolding in_forest
-in_forest_none {A = A} (ok g h) f p = let s : ◌≡◌ {A = Option A} (Some h.answer) None = ok_answer p in let z : ◌≡◌ {A = ℕ} 0 1 = cc in omega arith
+in_forest_none (ok g h) f p = none-some h.answer (sym (ok_answer p))
 in_forest_none (no r) f p = absurd (no≢ok p)
 in_forest_none never f p = absurd (never≢ok p)
-
-some≢none : {A : Type 0} {a : A} → ◌≡◌ {A = Option A} None (Some a) → ⊥
-some≢none {A = A} s = let z : ◌≡◌ {A = ℕ} 0 1 = cc in omega arith
 
 closed_some : {A : Type 0} (e : Env) (c i : ℕ) (o : Out (Option ℕ)) (w : ℕ → Node → Out (Held A)) (f : Forest) (a : A) → closed e c i o w ≡ ok f (Some a)
     → (g : Forest) × (k : ℕ) × (o ≡ ok g (Some k)) × (0 < k) × (in_forest (w k (node k g)) ≡ ok f (Some a))
 unfolding closed
-closed_some e c i (ok g None) w f a p = absurd (some≢none (ok_answer p))
+closed_some e c i (ok g None) w f a p = absurd (none-some a (ok_answer p))
 closed_some e c i (ok g (Some k)) w f a p = let r = completed_ok e k (c + 1 + size g) (i + wides g) (in_forest (w k (node k g))) f (Some a) p in (g, k, refl, r.0, r.2)
 closed_some e c i (no r) w f a p = absurd (no≢ok p)
 closed_some e c i never w f a p = absurd (never≢ok p)

@@ -1,6 +1,7 @@
 -- Islands: what a hook answers, so many tokens one by one, and a node around them or none.
 use Rattle.std.proofs.Common.{◌≡◌, ℕ, suc, ◌+◌, ◌-◌, ◌<◌, ◌≤◌, Bool, true, false, eqb, length, get_or, IsErrAnd, Some, None, Ok, Err, Option, Result, sym, refl, ap, ◌∙◌, arith}
 use Rattle.std.proofs.lemmas.List.{get_or_default}
+use Rattle.std.proofs.lemmas.Option.{none-some}
 use Rattle.std.proofs.lemmas.Bool.{eqb-false}
 use Rattle.refusals.specs.declared.Refusal.{Refusal}
 use Rattle.event_log.specs.Model.{State, Does}
@@ -49,7 +50,7 @@ kind_named e i h {k = k} fit p q = go (eqb (kind_at e i) EOF) refl
     kind = ap (λ (x : Answer). x.kind) (sym p) ∙ q
 
     go : (b : Bool) → eqb (kind_at e i) EOF ≡ b → 0 < k
-    go true z = let n : None ≡ Some k = sym (none_at_end h) ∙ ap (λ (x : Answer). x.kind) (sym (no_answer e i h z)) ∙ kind in absurd (let w : ◌≡◌ {A = ℕ} 0 1 = cc in omega arith)
+    go true z = absurd (none-some k (sym (none_at_end h) ∙ ap (λ (x : Answer). x.kind) (sym (no_answer e i h z)) ∙ kind))
     go false z = omega (arith, kind_of_node e.kinds i h _ k (answer_lawful e i h fit z) kind)
 
 -- Tokens one by one: i of n were taken
@@ -57,16 +58,13 @@ kind_named e i h {k = k} fit p q = go (eqb (kind_at e i) EOF) refl
 as_many : {m n : ℕ} {s t : State} {r : Result (Unit {0}) Refusal} → m ≡ n → Does (bumps m) s t r → Does (bumps n) s t r
 as_many e h = rw e at h
 
-one_more : (n i : ℕ) → i < n → suc (n - (i + 1)) ≡ n - i
-one_more n i lt = omega arith
-
 pub bumps_again : (n i : ℕ) {s t u : State} {x : Unit {0}} {r : Result (Unit {0}) Refusal} → i < n → Does bump_any s t (Ok x) → Does (bumps (n - (i + 1))) t u r → Does (bumps (n - i)) s u r
 unfolding bumps
-bumps_again n i lt h k = as_many (one_more n i lt) (then h k)
+bumps_again n i lt h k = as_many {m = suc (n - (i + 1))} (omega (arith, lt)) (then h k)
 
 pub bumps_exit : (n i : ℕ) {s t : State} {e : Refusal} → i < n → Does bump_any s t (Err e) → (r : Result (Unit {0}) Refusal) → IsErrAnd r (λ f. f ≡ e) → Does (bumps (n - i)) s t r
 unfolding bumps
-bumps_exit n i lt h r p = as_many (one_more n i lt) (exits h r p)
+bumps_exit n i lt h r p = as_many {m = suc (n - (i + 1))} (omega (arith, lt)) (exits h r p)
 
 pub bumps_last : (n i : ℕ) {s : State} → n ≤ i → Does (bumps (n - i)) s s (Ok tt)
 unfolding bumps

@@ -1,6 +1,6 @@
 -- How what one call does joins with what the next one does. The lemmas go by the shape of the code:
 -- a proof of a grammar function is one term of them for each way through it.
-use Rattle.std.proofs.Common.{◌≡◌, ℕ, suc, ◌+◌, ◌-◌, ◌<◌, ◌≤◌, Bool, true, false, cond, List, [], ◌∷◌, ◌++◌, length, IsErrAnd, Ok, Err, Option, Result, sym, refl, ap, ◌∙◌, add-zero, zero-add, arith}
+use Rattle.std.proofs.Common.{◌≡◌, ℕ, suc, ◌+◌, ◌-◌, ◌<◌, ◌≤◌, Bool, true, false, cond, List, [], ◌∷◌, ◌++◌, length, IsErrAnd, Ok, Err, Option, Result, sym, refl, ap, ◌∙◌, subst, add-zero, zero-add, arith}
 use Rattle.event_log.specs.declared.event.Record.{Record}
 use Rattle.event_log.specs.declared.event.Record.TheVariants.{Token, Error}
 use Rattle.refusals.specs.declared.Refusal.{Refusal}
@@ -8,7 +8,7 @@ use Rattle.event_log.specs.declared.marker.Marker.{Marker}
 use Rattle.event_log.specs.Forest.{Forest, ◌<>◌, flat, flats, wide, wides, blank}
 use Rattle.event_log.specs.Forest.Tree.{token, error}
 use Rattle.event_log.specs.Forest.Forest.{nil, cons}
-use Rattle.event_log.specs.Program.{Env, Prog, Out, Turn, size, grow, next, turned, spin, turns, spells, run}
+use Rattle.event_log.specs.Program.{Env, Prog, Out, Turn, size, grow, next, turned, spin, turns, spells, run, ◌>>◌}
 use Rattle.event_log.specs.Program.{completed as completed_at}
 use Rattle.event_log.specs.Program.Prog.{give, stop, ◌>>=◌, here, take, fault, repeat}
 use Rattle.event_log.specs.Program.Out.{ok, no, never}
@@ -16,11 +16,12 @@ use Rattle.event_log.specs.Program.Turn.{again, done}
 use Rattle.refusals.specs.declared.Refusal.TheVariants.{LogFull}
 use Rattle.event_log.specs.Model.{State, Grown, from, Does, Pushes, Full}
 use Rattle.event_log.specs.Marks.{Starts, Inside, Open, Named}
+use Rattle.event_log.specs.Settling.{Settled}
 use Rattle.event_log.specs.Model.Does.{did, refused}
 use Rattle.event_log.specs.Model.Pushes.{pushed, stuck}
 use Rattle.event_log.specs.Marks.Starts.{started}
 use Rattle.event_log.proofs.Telling.{flats_append}
-use Rattle.event_log.proofs.Sizes.{wides_append, length_flats}
+use Rattle.event_log.proofs.Sizes.{wides_append}
 use Rattle.event_log.proofs.Inversion.{nil_right}
 use Rattle.event_log.proofs.Fuel.{settled_ends, spin_more}
 use Rattle.event_log.proofs.Due.{due_ok, due_no, completed_full}
@@ -29,7 +30,7 @@ use Rattle.event_log.proofs.Growth.{still, grown_then, grown_as, records, there}
 -- what goes by them goes by where a forest ends
 past : {X : Type 0} {s t : State} (f : Forest) (P : Env → ℕ → ℕ → X) → Grown s t (flats f) (wides f)
     → P t.env (length t.recs) t.place ≡ P s.env (length s.recs + size f) (s.place + wides f)
-past {s = s} f P g = there P g ∙ ap (λ (n : ℕ). P s.env (length s.recs + n) (s.place + wides f)) (length_flats f)
+past f P g = there P g
 
 -- Answers, refusals, and one call after the other
 
@@ -54,6 +55,15 @@ then {m = m} {k} (did f e g) (refused rs w d i) = refused (flats f ++ rs) (wides
 pub fails : {A B : Type 0} {m : Prog A} {k : A → Prog B} {s t : State} {e : Refusal} → Does m s t (Err e) → Does (m >>= k) s t (Err e)
 unfolding run next
 fails {k = k} {s} (refused rs w d g) = refused rs w (ap (λ o. next o (λ x. run (k x) s.env) (length s.recs) s.place) d) g
+
+-- an answer in the place of the one that a call gives, and a call that is followed by it
+abbrev pub answers : {A B : Type 0} → B → Result A Refusal → Result B Refusal
+answers b (Ok a) = Ok b
+answers b (Err e) = Err e
+
+pub then_gives : {A B : Type 0} {m : Prog A} {b : B} {s t : State} {r : Result A Refusal} → Does m s t r → Does (m >> give b) s t (answers b r)
+then_gives (did f e g) = then (did f e g) gives
+then_gives (refused rs w e g) = fails (refused rs w e g)
 
 -- the exit of a `?`
 pub exits : {A B : Type 0} {m : Prog A} {k : A → Prog B} {s t : State} {e : Refusal} → Does m s t (Err e) → (r : Result B Refusal) → IsErrAnd r (λ f. f ≡ e) → Does (m >>= k) s t r
@@ -137,7 +147,7 @@ begun {s = s} P g = ap (λ (i : ℕ). P s.env (length s.recs + 1) i) (sym (add-z
 -- the records and the place that it ends with
 pub ended : {X : Type 0} {s u : State} (f : Forest) (P : Env → ℕ → ℕ → X) → Grown s u (blank ∷ flats f) (wides f)
     → P s.env (length s.recs + 1 + size f) (s.place + wides f) ≡ P u.env (length u.recs) u.place
-ended {s = s} f P g = ap (λ (c : ℕ). P s.env c (s.place + wides f)) (omega (arith, length_flats f)) ∙ sym (there P g)
+ended {s = s} f P g = ap (λ (c : ℕ). P s.env c (s.place + wides f)) (omega arith) ∙ sym (there P g)
 
 -- what it comes to where there is no room for its end
 pub refuses : {A : Type 0} {k : ℕ} {s t : State} {e : Refusal} (o : Out A) → 0 < k → Full s t e → completed_at s.env k (length s.recs) s.place o ≡ no e
@@ -151,11 +161,8 @@ named_exit e (Err f) p = tt
 -- Loops
 
 -- what ends is not without end
-pub ends : {A : Type 0} (o : Out A) {f : Forest} {a : A} → o ≡ ok f a → o ≡ never → ⊥
-ends o p q = let z : ◌≡◌ {A = ℕ} 0 1 = cc in omega arith
-
-pub ends_no : {A : Type 0} (o : Out A) {r : Refusal} → o ≡ no r → o ≡ never → ⊥
-ends_no o p q = let z : ◌≡◌ {A = ℕ} 0 1 = cc in omega arith
+pub ends : {A : Type 0} (o : Out A) {x : Out A} → o ≡ x → Settled x → o ≡ never → ⊥
+ends o p z q = subst Settled (sym p ∙ q) z
 
 -- the turns of a loop that is at s, but for one
 abbrev rest : {S : Type 0} → (S → Prog (Turn S)) → State → S → ℕ → ℕ → Out S
@@ -192,9 +199,9 @@ pub turn_again : {S : Type 0} {b : S → Prog (Turn S)} {x y : S} {s t u : State
     → Does (b x) s t (Ok (again y)) → s.place < t.place → t.place ≤ length t.env.kinds → Does (repeat b y) t u r → Does (repeat b x) s u r
 unfolding grow
 turn_again {b = b} {x} {y} (did f e g) lt le (did h d i) =
-    did (f <> h) (again_is b x y f e g lt le (ends _ d) ∙ ap (grow f) d) (grown_as (sym (flats_append f h)) (sym (wides_append f h)) (grown_then g i))
+    did (f <> h) (again_is b x y f e g lt le (ends _ d tt) ∙ ap (grow f) d) (grown_as (sym (flats_append f h)) (sym (wides_append f h)) (grown_then g i))
 turn_again {b = b} {x} {y} (did f e g) lt le (refused rs w d i) =
-    refused (flats f ++ rs) (wides f + w) (again_is b x y f e g lt le (ends_no _ d) ∙ ap (grow f) d) (grown_then g i)
+    refused (flats f ++ rs) (wides f + w) (again_is b x y f e g lt le (ends _ d tt) ∙ ap (grow f) d) (grown_then g i)
 
 pub last_turn : {S : Type 0} {b : S → Prog (Turn S)} {x y : S} {s t : State} → s.place ≤ length s.env.kinds → Does (b x) s t (Ok (done y)) → Does (repeat b x) s t (Ok y)
 unfolding next turned grow

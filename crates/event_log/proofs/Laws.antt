@@ -17,7 +17,6 @@ use Rattle.event_log.specs.Reading.Call.{call}
 use Rattle.event_log.specs.Theory.{Accepted, Refused, after_any, Spells, TokensLaw, KindsLaw, Moved, BoundsLaw, tells, TellingLaw, GoesOnLaw, BalanceLaw, TurnsLaw, WrapsLaw}
 use Rattle.event_log.proofs.Telling.{tell_flats, tell_flats_append, flats_append}
 use Rattle.event_log.proofs.Balancing.{told_balanced}
-use Rattle.event_log.proofs.Sizes.{length_flats}
 use Rattle.event_log.proofs.Spelling.{run_fine, holding_before, held_once, held_by_none}
 use Rattle.event_log.proofs.Fuel.{spin_more, wind_more}
 use Rattle.event_log.proofs.Turns.{loop_enough, wraps_enough}
@@ -40,7 +39,7 @@ moved m e r f h =
     let fine = accepted_fine m e (length r.log) r.place f h in
     let further = ap (λ (s : Reading). s.place) (accepted_kept m e r f h) in
     let added = ap (λ (s : Reading). s.log) (accepted_kept m e r f h) in
-    let more = ap length added ∙ length-append r.log (flats f) ∙ ap (λ n. length r.log + n) (length_flats f) in
+    let more = ap length added ∙ length-append r.log (flats f) in
     record {
       records = added;
       place = further;
@@ -83,7 +82,7 @@ telling_law = record {
 
 -- the records stay within the room
 stands_fits : (e : Env) (r : Reading) → Stands e r → length r.log ≤ e.room
-stands_fits e r s = rw (s.records, length_flats s.forest) (rw zero-add at (s.fine.fits (omega arith)))
+stands_fits e r s = rw s.records (rw zero-add at (s.fine.fits (omega arith)))
 
 -- the records of one more forest tell that forest behind what was told before
 tells_more : (e : Env) (r : Reading) (f : Forest) → Stands e r → Kinds f → tell (r.log ++ flats f) ≡ tell r.log ++ tells f

@@ -23,6 +23,7 @@ use Rattle.event_log.specs.Marks.Closed.{closed}
 use Rattle.event_log.specs.Marks.Finished.{completed, passed}
 use Rattle.event_log.specs.Marks.Led.{led}
 use Rattle.event_log.proofs.Sizes.{wides_append}
+use Rattle.event_log.proofs.Inversion.{take_ok, bind_ok}
 use Rattle.event_log.proofs.Kit.{inside}
 use Rattle.event_log.proofs.Wraps.{leads, after}
 
@@ -53,21 +54,6 @@ moves_then m n = record { on = omega (arith, m.on, n.from_on); same = n.same ∙
 pub then_moves : {s t u : State} → Stays s t → Moves t u → Moves s u
 then_moves m n = record { on = omega (arith, m.from_on, n.on); same = n.same ∙ m.same }
 
--- What a sequence came to, its parts came to
-
-grow_back : {A : Type 0} (f g : Forest) (a : A) (o : Out A) → grow f o ≡ ok g a → (h : Forest) × (o ≡ ok h a) × (g ≡ f <> h)
-unfolding grow
-grow_back f g a (ok h b) e = (h, cc, cc)
-grow_back f g a (no r) e = absurd (let z : ◌≡◌ {A = ℕ} 0 1 = cc in omega arith)
-grow_back f g a never e = absurd (let z : ◌≡◌ {A = ℕ} 0 1 = cc in omega arith)
-
-next_back : {A B : Type 0} (o : Out A) (k : A → ℕ → ℕ → Out B) (c i : ℕ) (g : Forest) (b : B) → next o k c i ≡ ok g b
-    → (f : Forest) × (a : A) × (o ≡ ok f a) × (wides f ≤ wides g)
-unfolding next
-next_back (ok f a) k c i g b e = let p = grow_back f g b _ e in (f, a, refl, omega (arith, ap wides p.2, wides_append f p.0))
-next_back (no r) k c i g b e = absurd (let z : ◌≡◌ {A = ℕ} 0 1 = cc in omega arith)
-next_back never k c i g b e = absurd (let z : ◌≡◌ {A = ℕ} 0 1 = cc in omega arith)
-
 -- A token that was taken was there
 
 some_long : (r : RawTokens) → 1 ≤ length_of r
@@ -75,23 +61,11 @@ some_long (One a) = omega arith
 some_long (Two a b) = omega arith
 some_long (Three a b c) = omega arith
 
-width_some : (k : ℕ) → 1 ≤ width k
-width_some k = some_long (parts k)
-
-took_it : (t : Tree) (i : ℕ) (b c : Bool) (f : Forest) → cond b (elim c [ true ↦ ok (cons t nil) tt | false ↦ no (LogFull i) ]) never ≡ ok f (tt {0}) → f ≡ cons t nil
-took_it t i true true f e = cc
-took_it t i true false f e = absurd (let z : ◌≡◌ {A = ℕ} 0 1 = cc in omega arith)
-took_it t i false c f e = absurd (let z : ◌≡◌ {A = ℕ} 0 1 = cc in omega arith)
-
-take_wide : (k w : ℕ) (s : State) (f : Forest) → from (take k w) s ≡ ok f tt → wides f ≡ w
-unfolding run record_due wides wide
-take_wide k w s f e = ap wides (took_it (token k w) s.place (spells s.env s.place k w) (ltb (length s.recs) s.env.room) f e) ∙ omega arith
-
 eat_wide : (k : ℕ) (s : State) (p : Bool) (f : Forest) (b : Bool) → from (cond p (take k (width k) >> give true) (give false)) s ≡ ok f b → p ≡ true → 1 ≤ wides f
-unfolding run
+unfolding wides wide
 eat_wide k s true f b e p =
-    let q = next_back (from (take k (width k)) s) (λ _. run (give true) s.env) (length s.recs) s.place f b e in
-    omega (arith, q.3, take_wide k (width k) s q.0 q.2, width_some k)
+    let q = bind_ok (take k (width k)) (λ _. give true) s.env (length s.recs) s.place f b e in
+    omega (arith, ap wides q.joined, wides_append q.first q.second, ap wides (take_ok k (width k) s.env (length s.recs) s.place q.first q.answered q.ran).2, some_long (parts k))
 eat_wide k s false f b e p = absurd (false≢true p)
 
 eat_true : (k : ℕ) (s : State) (p : Bool) (f : Forest) → from (cond p (take k (width k) >> give true) (give false)) s ≡ ok f true → p ≡ true
@@ -108,9 +82,9 @@ ate k {s} (did f e g) = let n = eat_wide k s (present s.env s.place k) f true e 
 pub eats_first : {A : Type 0} (k : ℕ) {m : Bool → Prog A} {s t : State} {a : A} → present s.env s.place k ≡ true → Does (eat k >>= m) s t (Ok a) → Moves s t
 unfolding run eat bump
 eats_first k {m} {s} {a = a} h (did f e g) =
-    let q = next_back (from (eat k) s) (λ b. run (m b) s.env) (length s.recs) s.place f a e in
-    let n = eat_wide k s (present s.env s.place k) q.0 q.1 q.2 h in
-    record { on = omega (arith, n, q.3, g.place); same = (grown_stays g).same }
+    let q = bind_ok (eat k) m s.env (length s.recs) s.place f a e in
+    let n = eat_wide k s (present s.env s.place k) q.first q.answered q.ran h in
+    record { on = omega (arith, n, ap wides q.joined, wides_append q.first q.second, g.place); same = (grown_stays g).same }
 
 -- A node that precedes another one moves on with its body
 

@@ -1,6 +1,7 @@
 -- What starting, completing, abandoning and preceding a node leave in the log.
 use Rattle.std.proofs.Common.{◌≡◌, ℕ, ◌+◌, ◌-◌, ◌<◌, ◌≤◌, Bool, ◌&&◌, List, [], ◌∷◌, ◌++◌, length, take, set, IsErrAnd, Some, None, Ok, Err, Option, Result, sym, refl, ap, ◌∙◌, append_assoc, append-nil, add-zero, arith, length-append, length-set, take_at}
 use lib.Seq.{set_at}
+use Rattle.std.proofs.lemmas.List.{nil_from_length}
 use Rattle.refusals.specs.declared.Refusal.{Refusal}
 use Rattle.tokens.specs.Kinds.{TOMBSTONE}
 use Rattle.event_log.specs.declared.event.Record.{Record}
@@ -73,13 +74,9 @@ completes {rs = rs} {w} {k} {m} u c nz (pushed lt g) i e h at to kind =
 
 -- A node that is abandoned
 
-nothing : (rs : List Record) → length rs ≡ 0 → rs ≡ []
-nothing [] e = refl
-nothing (r ∷ rs) e = absurd (omega arith)
-
 left_in_none : (rs : List Record) → length rs ≡ 0 → left_in rs ≡ []
 unfolding left_in
-left_in_none rs e = rw (nothing rs e)
+left_in_none rs e = rw (nil_from_length rs e)
 
 left_in_some : (rs : List Record) → (length rs ≡ 0 → ⊥) → left_in rs ≡ blank ∷ rs
 unfolding left_in
@@ -93,7 +90,7 @@ unfolding faultless
 taken_back {b} {rs = rs} {m = m} t i n e h = grown_as (sym (left_in_none rs none)) refl (record {
   by = e ∙ ap (take m.at) i.grown.by ∙ take_at b.recs (blank ∷ rs) m.at (sym i.at) ∙ sym (append-nil _);
   place = h.place ∙ i.grown.place;
-  clean = h.clean ∙ i.grown.clean ∙ ap (λ (xs : List Record). b.clean && faultless xs) (nothing rs none);
+  clean = h.clean ∙ i.grown.clean ∙ ap (λ (xs : List Record). b.clean && faultless xs) (nil_from_length rs none);
   same = h.same ∙ i.grown.same;
   long = h.long ∙ i.grown.long;
 })
@@ -121,10 +118,6 @@ settles_none p q h = rw (p, q) (abandoned h)
 
 pub settles_no : {b s t : State} {rs : List Record} {w : ℕ} {r : Result (Option ℕ) Refusal} {e : Refusal} → r ≡ Err e → Grown b t (left_in rs) w → Settled b rs w s t r (Err e)
 settles_no {rs = rs} p h = rw p (passed (left_in rs) h)
-
-pub closes_no : {e : Refusal} (x : Result (Unit {0}) Refusal) → IsErrAnd x (λ f. f ≡ e) → x ≡ Err e
-closes_no (Ok x) p = absurd p
-closes_no (Err f) p = ap (λ (g : Refusal). Err g) p
 
 pub finishes_ok : {A : Type 0} {b s t : State} {rs : List Record} {w k : ℕ} {a : A} {r : Result A Refusal} {x : Result CompletedMarker Refusal} → r ≡ Ok a → Closed b rs w k s t x → Finished b rs w k s t r x
 finishes_ok p h = rw p (answered h)

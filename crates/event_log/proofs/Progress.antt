@@ -1,6 +1,6 @@
 -- Which programs take a token whenever they are accepted: a rule for each form.
 use Rattle.std.proofs.Common.{◌≡◌, ℕ, zero, suc, ◌+◌, ◌<◌, Bool, true, false, cond, eqb, length, Some, None, Ok, Option, sym, refl, ap, ◌∙◌, not-suc-le-zero, arith}
-use Rattle.std.proofs.lemmas.Bool.{both_ways, eqb-true}
+use Rattle.std.proofs.lemmas.Bool.{both_ways, eqb-true, false_from_ne_true}
 use Rattle.tokens.specs.declared.rows.Hook.{Hook}
 use Rattle.tokens.specs.declared.rows.Hook.TheVariants.{Expr, BlockExpr, Literal, ExprBlockContents, Meta, Pattern, PatternSingle}
 use Rattle.tokens.specs.declared.rows.Answer.{Answer}
@@ -112,11 +112,7 @@ not_the_end Pattern = refl
 not_the_end PatternSingle = refl
 
 there : (h : Hook) (k : ℕ) → must_take h k ≡ true → eqb k EOF ≡ false
-there h k m = go (eqb k EOF) refl
-  where
-    go : (b : Bool) → eqb k EOF ≡ b → eqb k EOF ≡ false
-    go true z = absurd (both_ways (must_take h EOF) (not_the_end h) (ap (must_take h) (sym (eqb-true k EOF z)) ∙ m))
-    go false z = z
+there h k m = false_from_ne_true _ (λ z. both_ways (must_take h EOF) (not_the_end h) (ap (must_take h) (sym (eqb-true k EOF z)) ∙ m))
 
 -- An island takes a token: a block at `{`, a literal at one, and a single pattern at an identifier or `_`.
 pub takes_island : (h : Hook) (e : Env) (c i : ℕ) → rows_fit e.kinds e.rows ≡ true → must_take h (kind_at e i) ≡ true → Takes (island h) e c i

@@ -12,7 +12,7 @@ use Rattle.event_log.specs.Reading.{Call, Reading, begun, kept, called, after}
 use Rattle.event_log.specs.Reading.Call.{call}
 use Rattle.event_log.proofs.Telling.{flats_append, tell_flats}
 use Rattle.event_log.proofs.Balancing.{told_balanced}
-use Rattle.event_log.proofs.Sizes.{wides_append, length_flats}
+use Rattle.event_log.proofs.Sizes.{wides_append}
 use Rattle.event_log.proofs.Induction.{OnOk}
 use Rattle.event_log.proofs.Spelling.{fine_nothing, fine_append, runs_fine, held_once, held_by_none}
 
@@ -30,7 +30,7 @@ stands_begun e = record { forest = nil; records = refl; reach = refl; fine = fin
 stands_kept : {A : Type 0} (e : Env) (r : Reading) (o : Out A) → Stands e r → OnOk (Fine e (length r.log) r.place) o → Stands e (kept r o)
 stands_kept e r (ok g a) s h =
     let f : Forest = s.forest in
-    let c : length r.log ≡ 0 + size f = ap length s.records ∙ length_flats f ∙ sym (zero-add (size f)) in
+    let c : length r.log ≡ 0 + size f = ap length s.records ∙ sym (zero-add (size f)) in
     let i : r.place ≡ 0 + wides f = s.reach ∙ sym (zero-add (wides f)) in
     record {
       forest = f <> g;

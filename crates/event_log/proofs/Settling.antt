@@ -14,6 +14,7 @@ use Rattle.event_log.specs.Program.Wraps.{end, see, ◌>-◌, around, many}
 use Rattle.event_log.specs.Program.Turn.{again, done}
 use Rattle.event_log.specs.Program.Out.{ok, no, never}
 use Rattle.event_log.specs.Settling.{Settled}
+use Rattle.event_log.proofs.Fuel.{settled_grow}
 use Rattle.event_log.proofs.Induction.{on_due, on_named}
 use Rattle.event_log.proofs.Spelling.{run_fine}
 use Rattle.event_log.proofs.Inversion.{precede_nil}
@@ -24,15 +25,9 @@ settled_due e c i o h = on_due Settled (λ _. tt) e c i o (λ _. h)
 settled_completed : {A : Type 0} (e : Env) (k c i : ℕ) (o : Out A) → 0 < k → Settled o → Settled (completed e k c i o)
 settled_completed e k c i o z h = on_named Settled (λ _. tt) e k c i o z (λ _. h)
 
-settled_grown : {A : Type 0} (f : Forest) (o : Out A) → Settled o → Settled (grow f o)
-unfolding grow
-settled_grown f (ok g b) h = tt
-settled_grown f (no r) h = tt
-settled_grown f never h = h
-
 settled_next : {A B : Type 0} (o : Out A) (k : A → ℕ → ℕ → Out B) (c i : ℕ) → Settled o → ((f : Forest) (a : A) → o ≡ ok f a → Settled (k a (c + size f) (i + wides f))) → Settled (next o k c i)
 unfolding next
-settled_next (ok f a) k c i h s = settled_grown f (k a (c + size f) (i + wides f)) (s f a refl)
+settled_next (ok f a) k c i h s = rw (settled_grow f (k a (c + size f) (i + wides f))) (s f a refl)
 settled_next (no r) k c i h s = tt
 settled_next never k c i h s = h
 

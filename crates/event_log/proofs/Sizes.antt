@@ -47,7 +47,3 @@ unfolding flat_node
 size_of_wrap n k f =
     rw (length-append (flat_node n (Some (own n))) (Start k None ∷ (flats f ++ Finish ∷ [])), length-append (flats f) (Finish ∷ []), length_flat_node n (Some (own n)))
     (omega arith)
-
--- the records of a forest are as many as it comes to
-pub length_flats : (f : Forest) → length (flats f) ≡ size f
-length_flats f = refl

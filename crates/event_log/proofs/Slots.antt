@@ -18,9 +18,6 @@ use Rattle.event_log.specs.Model.Concludes.{accepted, taken_back}
 pub counted : (p : Parser) → length (of p).recs ≡ p.count
 counted p = length-take-le p.count p.records.now (omega (arith, p.within, p.roomy))
 
-pub kept : (l : List Record) (i : ℕ) (r : Record) {n : ℕ} → n ≤ length l → n ≤ length (set l i r)
-kept l i r h = rw length-set h
-
 -- Past the count there are blanks
 
 blank_is : (r : Record) → is_blank r ≡ true → r ≡ blank
@@ -56,9 +53,6 @@ pub blanks_after : (l : List Record) (n : ℕ) → all_blank (drop n l) ≡ true
 blanks_after l n h = are_blanks l (n + 1) (
     sym (drop-drop 1 n l) ∙ ap (drop 1) (blanks_are l n h) ∙ drop-replicate 1 (length l - n) blank
     ∙ ap (λ (k : ℕ). replicate k blank) (omega arith))
-
-pub blanks_set : (l : List Record) (n i : ℕ) (r : Record) → i < n → all_blank (drop n l) ≡ true → all_blank (drop n (set l i r)) ≡ true
-blanks_set l n i r lt h = ap all_blank (drop-set-lt n l i r lt) ∙ h
 
 -- and taking the last record back leaves one more
 pub blanks_pop : (l : List Record) (n : ℕ) → n < length l → all_blank (drop (n + 1) l) ≡ true → all_blank (drop n (set l n blank)) ≡ true

@@ -116,18 +116,9 @@ parent false n = None
 abbrev inner : Forest → List Record
 inner f = flats f ++ Finish ∷ []
 
-own_inner : (f : Forest) → 2 + length (flats f) ≡ suc (length (inner f))
-own_inner f = rw (length-append (flats f) (Finish ∷ [])) (omega arith)
-
-parent_node : (b : Bool) (k : ℕ) (f : Forest) → parent b (node k f) ≡ led b (inner f)
-unfolding own
-parent_node true k f = ap {B = Option ℕ} Some (own_inner f)
-parent_node false k f = refl
-
-parent_wrap : (b : Bool) (n : Node) (k : ℕ) (f : Forest) → parent b (wrap n k f) ≡ led b (inner f)
-unfolding own
-parent_wrap true n k f = ap {B = Option ℕ} Some (own_inner f)
-parent_wrap false n k f = refl
+parent_is : (b : Bool) (n : Node) (f : Forest) → own n ≡ 2 + length (flats f) → parent b n ≡ led b (inner f)
+parent_is true n f h = ap {B = Option ℕ} Some (omega (arith, h, length-append (flats f) (Finish ∷ [])))
+parent_is false n f h = refl
 
 -- A node tells its items, behind the enters of the chain that goes on behind it, and uses that chain up.
 abbrev TellsNode : Bool → Node → Type 0
@@ -136,13 +127,13 @@ TellsNode b n = (rs : List Record) (us : List Bool)
     ≡ enters (climb (onward b) rs) ++ (told_node n ++ tell_from rs (use_up (onward b) rs us))
 
 tells_node : (b : Bool) (k : ℕ) (f : Forest) → 0 < k → Tells (flats f) (told f) → TellsNode b (node k f)
-unfolding flat_node told_node
+unfolding flat_node told_node own
 tells_node b k f h t rs us =
-    rw (parent_node b k f)
+    rw (parent_is b (node k f) f refl)
     (tells_start b k (inner f) (told f ++ leave ∷ []) h (tells_append (flats f) (Finish ∷ []) (told f) (leave ∷ []) t tells_finish) rs us)
 
 tells_wrap : (b : Bool) (n : Node) (k : ℕ) (f : Forest) → 0 < k → TellsNode true n → Tells (flats f) (told f) → TellsNode b (wrap n k f)
-unfolding flat_node told_node tell_from climb use_up enters joined tell_each
+unfolding flat_node told_node own tell_from climb use_up enters joined tell_each
 tells_wrap b n k f h m t rs us =
     let A : List Item = told f ++ leave ∷ [] in
     let X : List Record = flat_node n (Some (own n)) in
@@ -150,7 +141,7 @@ tells_wrap b n k f h m t rs us =
     let R : List Item = tell_from rs (use_up (onward b) rs us) in
     let s : Tells (inner f) A = tells_append (flats f) (Finish ∷ []) (told f) (leave ∷ []) t tells_finish in
     rw (
-      parent_wrap b n k f,
+      parent_is b (wrap n k f) f refl,
       append_assoc X (Start k (led b (inner f)) ∷ inner f) rs,
       unused_append X (Start k (led b (inner f)) ∷ inner f),
       append_assoc (unused X) (false ∷ unused (inner f)) us,

@@ -9,7 +9,8 @@ use Rattle.event_log.specs.Program.Out.{ok}
 use Rattle.event_log.specs.Theory.{loop_of, wraps_of, Advances, AdvancesWhile}
 use Rattle.event_log.proofs.Spelling.{run_fine}
 use Rattle.event_log.proofs.Inversion.{around_ok}
-use Rattle.event_log.proofs.Unrolling.{next_eq, on_node_eq, wind_stop, wind_go}
+use Rattle.event_log.proofs.Fuel.{next_eq, on_node_eq}
+use Rattle.event_log.proofs.Unrolling.{wind_stop, wind_go}
 
 pub loop_enough : {S : Type 0} (turn : S → Prog (Turn S)) (e : Env) → Advances turn e → (n m : ℕ) (s : S) (c i : ℕ) → i ≤ length e.kinds
     → length e.kinds < n + i → length e.kinds < m + i → loop_of turn n s e c i ≡ loop_of turn m s e c i

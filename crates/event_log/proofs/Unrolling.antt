@@ -10,17 +10,11 @@ use Rattle.event_log.specs.Program.Wraps.{◌>-◌, around, many}
 use Rattle.event_log.specs.Program.Turn.{again, done}
 use Rattle.event_log.specs.Program.Out.{ok, no, never}
 use Rattle.event_log.specs.Settling.{Settled}
-use Rattle.event_log.proofs.Fuel.{spin_more, wind_more}
+use Rattle.event_log.proofs.Fuel.{next_eq, spin_more, on_node_eq, wind_more}
 use Rattle.event_log.proofs.Spelling.{run_fine}
 use Rattle.event_log.proofs.Inversion.{around_ok}
 
 -- ---- `repeat`
-
-pub next_eq : {A B : Type 0} (o : Out A) (k l : A → ℕ → ℕ → Out B) (c i : ℕ) → ((f : Forest) (a : A) → o ≡ ok f a → k a (c + size f) (i + wides f) ≡ l a (c + size f) (i + wides f)) → next o k c i ≡ next o l c i
-unfolding next
-next_eq (ok f a) k l c i h = ap (grow f) (h f a refl)
-next_eq (no r) k l c i h = refl
-next_eq never k l c i h = refl
 
 -- what follows a turn
 abbrev pub after_turn : {S : Type 0} → (S → Prog (Turn S)) → Turn S → Prog S
@@ -46,12 +40,6 @@ repeat_unroll {S = S} b s e c i l h =
     go f (done t) p = refl
 
 -- ---- `many`
-
-pub on_node_eq : {A B : Type 0} (o : Out (Held A)) (k l : A → Node → Out (Held B)) → ((f : Forest) (h : Held A) → o ≡ ok f h → k h.answer h.held ≡ l h.answer h.held) → on_node o k ≡ on_node o l
-unfolding on_node
-on_node_eq (ok f h) k l s = s f h refl
-on_node_eq (no r) k l s = refl
-on_node_eq never k l s = refl
 
 pub wind_stop : (m : ℕ) (t : Node → Bool) (f : Node → Out (Held ℕ)) (n : Node) → t n ≡ false → wind (suc m) t f n ≡ ok nil (record { held = n; answer = tt })
 unfolding wind

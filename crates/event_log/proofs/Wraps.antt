@@ -1,5 +1,6 @@
 -- How calls that take a completed node, and put others around it, join with each other.
 use Rattle.std.proofs.Common.{◌≡◌, ℕ, suc, ◌+◌, ◌-◌, ◌<◌, ◌≤◌, Bool, true, false, cond, ◌&&◌, List, [], ◌∷◌, ◌++◌, length, IsErrAnd, Some, None, Ok, Err, Result, sym, refl, ap, ◌∙◌, append_assoc, add-zero, arith, length-append}
+use Rattle.std.proofs.Math.Bool.{and_assoc}
 use Rattle.event_log.specs.declared.event.Record.{Record}
 use Rattle.event_log.specs.declared.event.Record.TheVariants.{Finish}
 use Rattle.refusals.specs.declared.Refusal.{Refusal}
@@ -24,10 +25,10 @@ use Rattle.event_log.specs.Marks.Winds.{wound, refused as unwound}
 use Rattle.event_log.specs.Marks.Led.{led, stuck}
 use Rattle.event_log.proofs.Fuel.{settled_ends, wind_more}
 use Rattle.event_log.proofs.Unrolling.{wind_go, wind_stop}
-use Rattle.event_log.proofs.Sizes.{length_flat_node, length_flats}
+use Rattle.event_log.proofs.Sizes.{length_flat_node}
 use Rattle.event_log.proofs.Due.{due_ok, due_no, completed_ok}
-use Rattle.event_log.proofs.Growth.{faultless_append, and_assoc, grown_then, records}
-use Rattle.event_log.proofs.Kit.{full_no, inside, opens, begun, ended, refuses, ends, ends_no, gives, then, fails}
+use Rattle.event_log.proofs.Growth.{faultless_append, grown_then, records}
+use Rattle.event_log.proofs.Kit.{full_no, inside, opens, begun, ended, refuses, ends, gives, then, fails, answers, then_gives}
 
 -- What precedes a node
 
@@ -166,7 +167,7 @@ finished body b n {k = k} f st e i (closed nz lt g at to kind) =
     wound (wrap n k f)
     (around_is body b n st ∙ ap (wrapped b.env (length b.recs) b.place n) e ∙ wrapped_is k b n f i.grown ∙ completed_ok _ k _ _ _ nz lt
     ∙ ap (λ (j : ℕ). ok nil (record { held = wrap n k f; answer = j })) (sym kind))
-    (record { grown = grown_then (since b n) g; start = omega (arith, at, records g, length-append (flats f) (Finish ∷ []), length_flats f); end = to; kind = kind })
+    (record { grown = grown_then (since b n) g; start = omega (arith, at, records g, length-append (flats f) (Finish ∷ [])); end = to; kind = kind })
 finished body b n {k = k} f st e i (unclosed more z why g) =
     unwound _ _
     (around_is body b n st ∙ ap (wrapped b.env (length b.recs) b.place n) e ∙ wrapped_is k b n f i.grown ∙ refuses _ z why)
@@ -189,16 +190,7 @@ arounds_by : {body : Prog ℕ} {c : CompletedMarker} {s t u v : State} {m : Mark
 arounds_by {body} f (did g e h) k b n p = let st = leads p (f b n p) in let i = inside st h in around_answers body b n g st e i (k (after b n) (flats g) (wides g) i)
 arounds_by {body} f (refused rs w e h) k b n p = let st = leads p (f b n p) in around_passes body b n st e (k (after b n) rs w (inside st h))
 
--- a body that answers with nothing, and the kind
-abbrev of_kind : {A : Type 0} → ℕ → Result A Refusal → Result ℕ Refusal
-of_kind k (Ok a) = Ok k
-of_kind k (Err e) = Err e
-
-kinded : {A : Type 0} {m : Prog A} {k : ℕ} {s t : State} {r : Result A Refusal} → Does m s t r → Does (m >> give k) s t (of_kind k r)
-kinded (did f e g) = then (did f e g) gives
-kinded (refused rs w e g) = fails (refused rs w e g)
-
-answered : {A : Type 0} {b : State} {rs : List Record} {w k : ℕ} {s t : State} {r : Result A Refusal} {x : Result CompletedMarker Refusal} → Finished b rs w k s t r x → Answered b rs w s t (of_kind k r) x
+answered : {A : Type 0} {b : State} {rs : List Record} {w k : ℕ} {s t : State} {r : Result A Refusal} {x : Result CompletedMarker Refusal} → Finished b rs w k s t r x → Answered b rs w s t (answers k r) x
 answered (finished_so h) = completed h
 answered (passed_on more g) = passed more g
 
@@ -207,7 +199,7 @@ pub arounds : {A : Type 0} {m : Prog A} {k : ℕ} {c : CompletedMarker} {s t u v
     → ((b : State) (n : Node) → Pending b n c s → Led b n s t (Ok a)) → Does m t u r
     → ((b : State) (rs : List Record) (w : ℕ) → Inside b rs w a u → Finished b rs w k u v r x)
     → Precedes by_kind (around (m >> give k)) c s v x
-arounds f d h = arounds_by f (kinded d) (λ b rs w i. answered (h b rs w i))
+arounds f d h = arounds_by f (then_gives d) (λ b rs w i. answered (h b rs w i))
 
 -- the same with no body
 pub arounds_now : {k : ℕ} {c : CompletedMarker} {s t v : State} {m : Marker} {x : Result CompletedMarker Refusal}
@@ -272,8 +264,8 @@ many_same t body {b} {n} {m} {s = s} {u} k h i e d lt le finite =
     fewer = omega (arith, kinds_same i, h.grown.place, i.grown.place, le, lt)
 
 finite : {X A : Type 0} {show : X → CompletedMarker × A} {w : Wraps A} {b : State} {n : Node} {t : State} {r : Result X Refusal} → Winds show w b n t r → outcome w b n ≡ never → ⊥
-finite (wound m e p) q = ends _ e q
-finite (unwound rs v e g) q = ends_no _ e q
+finite (wound m e p) q = ends _ e tt q
+finite (unwound rs v e g) q = ends _ e tt q
 
 many_on : (t : Env → ℕ → Bool) (body : Prog ℕ) {b : State} {n : Node} {c d : CompletedMarker} {s u v : State} {r : Result CompletedMarker Refusal}
     → Pending b n c s → t s.env s.place ≡ true → Winds by_kind (around body) b n u (Ok d) → s.place < u.place → u.place ≤ length u.env.kinds

@@ -1,6 +1,6 @@
-use Rattle.std.proofs.Common.{◌<◌, refl, arith, length-set}
+use Rattle.std.proofs.Common.{◌<◌, refl, arith, length-set, drop-set-lt}
 use lib.Seq.{take-set-lt}
-use Rattle.event_log.proofs.Slots.{counted, kept, blanks_set}
+use Rattle.event_log.proofs.Slots.{counted}
 use Rattle.event_log.proofs.Nodes.{count_started, no_precede, start_below, precedes}
 use Rattle.event_log.proofs.marker.CompletedMarker.precede.Goals as goal
 
@@ -14,11 +14,11 @@ invariant_of-p c =
     let lt : c.args.self.start < q.count = omega (arith, start_below c.requires, counted p, count_started p q c.in_ok-m.ensures) in
     record {
       within = q.within;
-      roomy = kept q.records.now _ _ q.roomy;
+      roomy = rw length-set q.roomy;
       short = rw length-set q.short;
       few = q.few;
       inside = q.inside;
-      blanks = blanks_set _ _ _ _ lt q.blanks;
+      blanks = rw (drop-set-lt q.count q.records.now _ _ lt) q.blanks;
     }
 
 pub returns : goal.returns

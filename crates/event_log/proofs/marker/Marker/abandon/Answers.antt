@@ -1,6 +1,6 @@
 use Rattle.std.proofs.Common.{◌<◌, length, sym, refl, ◌∙◌, arith, length-set, take-take}
 use lib.Seq.{take-set-le}
-use Rattle.event_log.proofs.Slots.{counted, kept, blanks_pop}
+use Rattle.event_log.proofs.Slots.{counted, blanks_pop}
 use Rattle.event_log.proofs.Nodes.{taken_back, left_there}
 use Rattle.event_log.proofs.marker.Marker.abandon.Goals as goal
 
@@ -10,7 +10,7 @@ invariant_of-p c =
     let lt : c.args.self.at < length p.records.now = omega (arith, c.requires, counted p, p.within, p.roomy) in
     record {
       within = omega (arith, c.requires, counted p, p.within);
-      roomy = kept p.records.now _ _ p.roomy;
+      roomy = rw length-set p.roomy;
       short = rw length-set p.short;
       few = p.few;
       inside = p.inside;
