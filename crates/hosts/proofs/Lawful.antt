@@ -1,5 +1,5 @@
 -- Lawful answers: a node of some tokens, a fault alone, a run.
-use Rattle.std.proofs.Common.{◌≡◌, ℕ, ◌-◌, ◌<◌, ◌≤◌, Bool, true, false, ◌&&◌, eqb, ltb, leb, ◌⊎◌, List, length, get_or, drop, Some, None, sym, refl, ap, ◌∙◌, inl, inr, add-zero, arith}
+use Rattle.std.proofs.Common.{◌≡◌, ℕ, ◌-◌, ◌<◌, ◌≤◌, Bool, true, false, ◌&&◌, eqb, ltb, leb, List, length, get_or, drop, Some, None, sym, refl, ap, ◌∙◌, inl, inr, add-zero, arith}
 use native.Mathlib.Nat.{sub-zero}
 use Rattle.std.proofs.lemmas.Bool.{le-leb, lt-ltb, eqb-true, eqb-false, and_from, or_left, or_right, not_from_false, cond_both}
 use Rattle.std.proofs.lemmas.List.{length-drop, get_or-drop, get_or_past, get_or_default}
@@ -93,8 +93,7 @@ contents_lawful ks n le = by_laws ks ExprBlockContents (record { tokens = n; kin
 
 -- where a run that also stops at marks is empty, no token must be taken
 pub empty_free : (ks : List ℕ) (h : Hook) → run_length (stops_at Mark) ks ≡ 0 → must_take h (get_or ks 0 EOF) ≡ false
-empty_free ks h z = go (run_empty (stops_at Mark) ks z)
-  where
-    go : (length ks ≡ 0) ⊎ ((0 < length ks) × (stops_at Mark (get_or ks 0 0) ≡ true)) → must_take h (get_or ks 0 EOF) ≡ false
-    go (inl e) = ap (must_take h) (get_or_past ks 0 EOF (omega arith)) ∙ end_free h
-    go (inr p) = stop_free h _ (ap (stops_at Mark) (get_or_default ks 0 EOF 0 p.0) ∙ p.1)
+empty_free ks h z = elim (run_empty (stops_at Mark) ks z) [
+  | inl e ↦ ap (must_take h) (get_or_past ks 0 EOF (omega arith)) ∙ end_free h
+  | inr p ↦ stop_free h _ (ap (stops_at Mark) (get_or_default ks 0 EOF 0 p.0) ∙ p.1)
+]
