@@ -1,10 +1,9 @@
 -- Filling rows: why it is refused, and what the rows hold as the loop goes on.
-use Rattle.std.proofs.Common.{◌≡◌, ℕ, ◌<◌, Bool, true, false, cond, not, eqb, ltb, List, [], ◌∷◌, length, get_or, IsErrAnd, Some, None, Ok, Err, Option, Result, sym, refl, ap, ◌∙◌, arith}
+use Rattle.std.proofs.Common.{◌≡◌, ℕ, ◌<◌, Bool, true, false, List, [], ◌∷◌, length, get_or, IsErrAnd, Some, None, Ok, Err, Option, Result, sym, refl, ap, ◌∙◌, arith}
 use Rattle.std.proofs.lemmas.Bool.{eqb-true, not-false, and_from}
+use Rattle.std.proofs.lemmas.Option.{none-some}
 use Rattle.std.proofs.lemmas.List.FromFn.{fill_by_all}
 use Rattle.refusals.specs.declared.Refusal.{Refusal}
-use Rattle.refusals.specs.declared.Layer.TheVariants.{Input as input_layer}
-use Rattle.refusals.specs.declared.Refusal.TheVariants.{TooManyTokens, ColumnLength}
 use Rattle.tokens.specs.declared.input.Input.{Input}
 use Rattle.tokens.specs.declared.rows.Hook.{Hook}
 use Rattle.tokens.specs.declared.rows.Hook.TheVariants.{Expr, BlockExpr, Literal, ExprBlockContents, Meta, Pattern, PatternSingle}
@@ -16,46 +15,32 @@ use Rattle.hosts.specs.Host.{Columns, columns}
 use Rattle.hosts.specs.Fill.{fill_verdict, row_of, Fills}
 use Rattle.hosts.specs.Fill.Fills.{filled, refused}
 
-three : (b d : Bool) (r s : Refusal) (v : Option Refusal) → first_of (when b r ∷ (when d s ∷ (v ∷ []))) ≡ cond b (Some r) (cond d (Some s) v)
-unfolding first_of
-three true d r s v = refl
-three false true r s v = refl
-three false false r s None = refl
-three false false r s (Some x) = refl
-
 -- what the first two of three refuse, all three refuse; and where they accept, the third decides
-first_two : (b d : Bool) (r s : Refusal) (v : Option Refusal) {e : Refusal} → Some e ≡ first_of (when b r ∷ (when d s ∷ [])) → Some e ≡ first_of (when b r ∷ (when d s ∷ (v ∷ [])))
+third : (a b v : Option Refusal) → first_of (a ∷ (b ∷ (v ∷ []))) ≡ elim (first_of (a ∷ (b ∷ []))) [ None ↦ v | Some r ↦ Some r ]
 unfolding first_of
-first_two true d r s v h = h
-first_two false true r s v h = h
-first_two false false r s v h = absurd (let z : ◌≡◌ {A = ℕ} 0 1 = cc in omega arith)
+third (Some r) b v = refl
+third None (Some r) v = refl
+third None None None = refl
+third None None (Some r) = refl
 
-past_two : (b d : Bool) (r s : Refusal) (v : Option Refusal) → None ≡ first_of (when b r ∷ (when d s ∷ [])) → v ≡ first_of (when b r ∷ (when d s ∷ (v ∷ [])))
+-- and where all three accept, so does the second
+accepts : (a : Option Refusal) (d : Bool) (s : Refusal) (v : Option Refusal) → first_of (a ∷ (when d s ∷ (v ∷ []))) ≡ None → d ≡ false
 unfolding first_of
-past_two true d r s v h = absurd (let z : ◌≡◌ {A = ℕ} 0 1 = cc in omega arith)
-past_two false true r s v h = absurd (let z : ◌≡◌ {A = ℕ} 0 1 = cc in omega arith)
-past_two false false r s None h = refl
-past_two false false r s (Some x) h = refl
+accepts (Some r) d s v h = absurd (none-some r (sym h))
+accepts None true s v h = absurd (none-some s (sym h))
+accepts None false s v h = refl
 
 module _ (i : Input) (rows : ℕ) where
-  parts : fill_verdict i rows ≡ cond (ltb 4096 (length i.kinds.now)) (Some (TooManyTokens input_layer)) (cond (not (eqb rows (length i.kinds.now))) (Some ColumnLength) (verdict i 0))
-  parts = three _ _ _ _ _
-
   -- the number of rows decides first, and then the columns
   pub by_count : {e : Refusal} → Some e ≡ row_count_fault i rows → Some e ≡ fill_verdict i rows
-  by_count h = first_two _ _ _ _ _ h
+  by_count h = rw third (rw (← h) refl)
 
   pub past_count : None ≡ row_count_fault i rows → verdict i 0 ≡ fill_verdict i rows
-  past_count h = past_two _ _ _ _ _ h
+  past_count h = rw third (rw (← h) refl)
 
   -- accepted, there is one row for each token
   pub rows_count : fill_verdict i rows ≡ None → rows ≡ length i.kinds.now
-  rows_count h = go _ _ _ _ _ refl (sym parts ∙ h)
-    where
-      go : (b d : Bool) (r s : Refusal) (v : Option Refusal) → not (eqb rows (length i.kinds.now)) ≡ d → cond b (Some r) (cond d (Some s) v) ≡ None → rows ≡ length i.kinds.now
-      go true d r s v e p = absurd (let z : ◌≡◌ {A = ℕ} 0 1 = cc in omega arith)
-      go false true r s v e p = absurd (let z : ◌≡◌ {A = ℕ} 0 1 = cc in omega arith)
-      go false false r s v e p = eqb-true _ _ (not-false _ e)
+  rows_count h = eqb-true _ _ (not-false _ (accepts _ _ _ _ h))
 
 -- a row of lawful answers
 pub row_lawful : (ks : List ℕ) (p : ℕ) (r : Row) → ((h : Hook) → lawful_answer ks p h (answer_of r h) ≡ true) → lawful_row ks p r ≡ true

@@ -24,15 +24,12 @@ token_there : (f : ℕ → Bool) (ks : List ℕ) → f EOF ≡ false → f (get_
 token_there f [] e t = absurd (both_ways (f EOF) e t)
 token_there f (k ∷ ks) e t = omega arith
 
-one_lawful : (ks : List ℕ) (h : Hook) (k : ℕ) → 0 < length ks → is_node k ≡ true → lawful_answer ks 0 h (one_token k) ≡ true
-one_lawful ks h k some node = node_lawful ks h 1 k false (omega arith) (omega arith) node
-
 module _ (ks : List ℕ) (h : Hook) where
   -- a token that passes a test as a node, or else another answer
   one_or : (f : ℕ → Bool) (k : ℕ) (other : Answer) → f EOF ≡ false → is_node k ≡ true → (f (get_or ks 0 EOF) ≡ false → lawful_answer ks 0 h other ≡ true)
       → lawful_answer ks 0 h (cond (f (get_or ks 0 EOF)) (one_token k) other) ≡ true
   one_or f k other end node otherwise =
-      cond_both (f (get_or ks 0 EOF)) (one_token k) other (λ a. lawful_answer ks 0 h a ≡ true) (λ e. one_lawful ks h k (token_there f ks end e) node) otherwise
+      cond_both (f (get_or ks 0 EOF)) (one_token k) other (λ a. lawful_answer ks 0 h a ≡ true) (λ e. let some : 0 < length ks = token_there f ks end e in node_lawful ks h 1 k false (omega arith) (omega arith) node) otherwise
 
   pattern_lawful : (eqb (get_or ks 0 EOF) IDENT ≡ false → eqb (get_or ks 0 EOF) UNDERSCORE ≡ false → must_take h (get_or ks 0 EOF) ≡ false)
       → lawful_answer ks 0 h (token_pattern (get_or ks 0 EOF)) ≡ true

@@ -1,5 +1,5 @@
 -- Lawful answers: a node of some tokens, a fault alone, a run.
-use Rattle.std.proofs.Common.{◌≡◌, ℕ, ◌-◌, ◌<◌, ◌≤◌, Bool, true, false, ◌&&◌, eqb, ltb, leb, ◌⊎◌, List, length, get_or, drop, Some, None, sym, refl, ap, ◌∙◌, inl, inr, add-zero, arith}
+use Rattle.std.proofs.Common.{◌≡◌, ℕ, ◌<◌, ◌≤◌, Bool, true, false, eqb, ltb, List, length, get_or, drop, Some, None, refl, ap, ◌∙◌, inl, inr, add-zero, arith}
 use native.Mathlib.Nat.{sub-zero}
 use Rattle.std.proofs.lemmas.Bool.{le-leb, lt-ltb, eqb-true, eqb-false, and_from, or_left, or_right, not_from_false, cond_both}
 use Rattle.std.proofs.lemmas.List.{length-drop, get_or-drop, get_or_past, get_or_default}
@@ -15,41 +15,19 @@ use Rattle.tokens.specs.Islands.{nothing, bare_fault}
 use Rattle.hosts.specs.Answers.{tree}
 use Rattle.hosts.proofs.Runs.{run_within, run_empty}
 
--- the laws, for so many tokens from a token of this kind on
-abbrev laws : Hook → Answer → ℕ → ℕ → Bool
-laws h a n k = leb a.tokens n && (names_node a && (may_answer h a && takes_enough h k a))
-
 -- an answer is lawful at a place if it is at the first of the tokens from there on
 pub lawful_ahead : (ks : List ℕ) (p : ℕ) (h : Hook) (a : Answer) → lawful_answer (drop p ks) 0 h a ≡ true → lawful_answer ks p h a ≡ true
 unfolding lawful_answer
-lawful_ahead ks p h a e = sym (λ j. laws h a (count j) (kind j)) ∙ e
-  where
-    count : length (drop p ks) - 0 ≡ length ks - p
-    count = sub-zero (length (drop p ks)) ∙ length-drop p ks
-
-    kind : get_or (drop p ks) 0 EOF ≡ get_or ks p EOF
-    kind = get_or-drop p ks 0 EOF ∙ ap (λ (i : ℕ). get_or ks i EOF) (add-zero p)
+lawful_ahead ks p h a e = rw (sub-zero (length (drop p ks)), length-drop p ks, get_or-drop p ks 0 EOF, add-zero p) at e
 
 -- a node of some tokens may be answered to every hook
 node_may : (h : Hook) (a : Answer) → has_node a ≡ true → may_lack_fault h a ≡ true
-node_may Expr a e = e
-node_may BlockExpr a e = e
-node_may Literal a e = or_left _ _ e
-node_may ExprBlockContents a e = refl
-node_may Meta a e = e
-node_may Pattern a e = e
-node_may PatternSingle a e = e
+node_may h a e = grind (arith, nat_tests)
 
 -- no hook must take a token at the end, or one that a run stops at
 
 end_free : (h : Hook) → must_take h EOF ≡ false
-end_free Expr = refl
-end_free BlockExpr = refl
-end_free Literal = refl
-end_free ExprBlockContents = refl
-end_free Meta = refl
-end_free Pattern = refl
-end_free PatternSingle = refl
+end_free h = grind (arith, nat_tests)
 
 stop_free : (h : Hook) (k : ℕ) → stops_at Mark k ≡ true → must_take h k ≡ false
 stop_free Expr k e = refl
@@ -93,8 +71,7 @@ contents_lawful ks n le = by_laws ks ExprBlockContents (record { tokens = n; kin
 
 -- where a run that also stops at marks is empty, no token must be taken
 pub empty_free : (ks : List ℕ) (h : Hook) → run_length (stops_at Mark) ks ≡ 0 → must_take h (get_or ks 0 EOF) ≡ false
-empty_free ks h z = go (run_empty (stops_at Mark) ks z)
-  where
-    go : (length ks ≡ 0) ⊎ ((0 < length ks) × (stops_at Mark (get_or ks 0 0) ≡ true)) → must_take h (get_or ks 0 EOF) ≡ false
-    go (inl e) = ap (must_take h) (get_or_past ks 0 EOF (omega arith)) ∙ end_free h
-    go (inr p) = stop_free h _ (ap (stops_at Mark) (get_or_default ks 0 EOF 0 p.0) ∙ p.1)
+empty_free ks h z = elim (run_empty (stops_at Mark) ks z) [
+  | inl e ↦ ap (must_take h) (get_or_past ks 0 EOF (omega arith)) ∙ end_free h
+  | inr p ↦ stop_free h _ (ap (stops_at Mark) (get_or_default ks 0 EOF 0 p.0) ∙ p.1)
+]

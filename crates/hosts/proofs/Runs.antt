@@ -1,9 +1,10 @@
 -- Bracket runs: how a loop finds where one ends, and how long one is.
-use Rattle.std.proofs.Common.{◌≡◌, ℕ, zero, suc, ◌+◌, ◌-◌, ◌<◌, ◌≤◌, Bool, true, false, cond, eqb, ltb, ◌⊎◌, List, length, get_or, Some, None, Option, unwrap_or, sym, refl, ap, ◌∙◌, inl, inr, add-one, arith}
+use Rattle.std.proofs.Common.{◌≡◌, ℕ, zero, suc, ◌+◌, ◌<◌, ◌≤◌, Bool, true, false, cond, eqb, ltb, ◌⊎◌, List, length, get_or, Some, None, Option, unwrap_or, sym, refl, ap, ◌∙◌, inl, inr, add-one, arith}
 use Rattle.std.proofs.lemmas.Bool.{and_left, and_right, and_from, and_parts, eq-eqb, ne_eqb}
+use Rattle.std.proofs.lemmas.Bool.Decides.{nat_tests}
 use Rattle.grammar.specs.Verdict.{first_below}
 use Rattle.grammar.proofs.Firsts.{none_yet, none_more, found}
-use Rattle.hosts.specs.Runs.{opens_bracket, closes_bracket, depth_behind, depth, ends_before, run_length, run_of}
+use Rattle.hosts.specs.Runs.{depth_behind, depth, ends_before, run_length, run_of}
 
 pub depth_none : (ks : List ℕ) → depth ks 0 ≡ 0
 unfolding depth
@@ -33,12 +34,7 @@ first_is p (suc n) = go (first_below p n) (first_is p n)
 
 -- behind a token at most one bracket more is open
 pub one_deeper : (k n : ℕ) → depth_behind k n ≤ n + 1
-one_deeper k n = go (opens_bracket k) (closes_bracket k)
-  where
-    go : (o c : Bool) → cond o (n + 1) (cond c (n - 1) n) ≤ n + 1
-    go true c = omega arith
-    go false true = omega arith
-    go false false = omega arith
+one_deeper k n = grind (arith, nat_tests)
 
 module _ (stops : ℕ → Bool) (ks : List ℕ) where
   -- the run goes on to token i, where so many brackets are open
@@ -95,16 +91,11 @@ module _ (stops : ℕ → Bool) (ks : List ℕ) where
       go (Some i) f = inr f
 
   pub run_within : run_length stops ks ≤ length ks
-  run_within = go run_end
-    where
-      go : (run_length stops ks ≡ length ks) ⊎ ((run_length stops ks < length ks) × (ends_before stops ks (run_length stops ks) ≡ true)) → run_length stops ks ≤ length ks
-      go (inl e) = omega arith
-      go (inr p) = omega (arith, p.0)
+  run_within = elim run_end [ inl e ↦ omega arith | inr p ↦ omega (arith, p.0) ]
 
   -- an empty run has no tokens before it, or one that it stops at
   pub run_empty : run_length stops ks ≡ 0 → (length ks ≡ 0) ⊎ ((0 < length ks) × (stops (get_or ks 0 0) ≡ true))
-  run_empty z = go run_end
-    where
-      go : (run_length stops ks ≡ length ks) ⊎ ((run_length stops ks < length ks) × (ends_before stops ks (run_length stops ks) ≡ true)) → (length ks ≡ 0) ⊎ ((0 < length ks) × (stops (get_or ks 0 0) ≡ true))
-      go (inl e) = inl (sym e ∙ z)
-      go (inr p) = inr (omega (arith, p.0), ap (λ (n : ℕ). stops (get_or ks n 0)) (sym z) ∙ (and_parts _ _ p.1).1)
+  run_empty z = elim run_end [
+    | inl e ↦ inl (sym e ∙ z)
+    | inr p ↦ inr (omega (arith, p.0), ap (λ (n : ℕ). stops (get_or ks n 0)) (sym z) ∙ (and_parts _ _ p.1).1)
+  ]

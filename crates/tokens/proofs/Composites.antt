@@ -1,5 +1,5 @@
 -- What a composite token is made of are tokens that there are: the end is none of them.
-use Rattle.std.proofs.Common.{◌≡◌, ℕ, cond, eqb, arith}
+use Rattle.std.proofs.Common.{◌≡◌, ℕ, cond, eqb, rules}
 use Rattle.std.proofs.lemmas.Bool.{cond_both}
 use Rattle.tokens.specs.declared.composite.RawTokens.{RawTokens}
 use Rattle.tokens.specs.declared.composite.RawTokens.TheVariants.{One, Two, Three}
@@ -17,29 +17,4 @@ row k n x y p q = cond_both (eqb k n) x y NoEnd (λ _. p) (λ _. q)
 
 pub no_end : (k : ℕ) → NoEnd (parts k)
 unfolding parts
-no_end k =
-    row k _ _ _ (λ e. omega arith) (
-    row k _ _ _ (λ e. omega arith) (
-    row k _ _ _ (λ e. omega arith) (
-    row k _ _ _ (λ e. omega arith) (
-    row k _ _ _ (λ e. omega arith) (
-    row k _ _ _ (λ e. omega arith) (
-    row k _ _ _ (λ e. omega arith) (
-    row k _ _ _ (λ e. omega arith) (
-    row k _ _ _ (λ e. omega arith) (
-    row k _ _ _ (λ e. omega arith) (
-    row k _ _ _ (λ e. omega arith) (
-    row k _ _ _ (λ e. omega arith) (
-    row k _ _ _ (λ e. omega arith) (
-    row k _ _ _ (λ e. omega arith) (
-    row k _ _ _ (λ e. omega arith) (
-    row k _ _ _ (λ e. omega arith) (
-    row k _ _ _ (λ e. omega arith) (
-    row k _ _ _ (λ e. omega arith) (
-    row k _ _ _ (λ e. omega arith) (
-    row k _ _ _ (λ e. omega arith) (
-    row k _ _ _ (λ e. omega arith, λ e. omega arith) (
-    row k _ _ _ (λ e. omega arith, λ e. omega arith) (
-    row k _ _ _ (λ e. omega arith, λ e. omega arith) (
-    row k _ _ _ (λ e. omega arith, λ e. omega arith) (
-    tt))))))))))))))))))))))))
+no_end k = search (rules, row)

@@ -62,7 +62,3 @@ takes_some kinds i h a l m =
     let rest = (and_parts (names_node a) _ (and_parts (exists_from kinds i a.tokens) _ l).1).1 in
     let enough = (and_parts (may_answer h a) (takes_enough h (get_or kinds i EOF) a) rest).1 in
     ⊎_elim (ltb-true 0 a.tokens) (λ n. absurd (both_ways (must_take h (get_or kinds i EOF)) (not-true _ n) m)) (or_cases (ltb 0 a.tokens) _ enough)
-
-pub tokens_exist : (kinds : List ℕ) (i : ℕ) (h : Hook) (a : Answer) → lawful_answer kinds i h a ≡ true → exists_from kinds i a.tokens ≡ true
-unfolding lawful_answer
-tokens_exist kinds i h a l = (and_parts (exists_from kinds i a.tokens) _ l).0

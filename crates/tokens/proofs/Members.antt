@@ -1,11 +1,13 @@
 -- Which kinds words have, after each way to make them.
-use Rattle.std.proofs.Common.{◌≡◌, ℕ, zero, suc, ◌+◌, ◌/◌, ◌%◌, ◌^◌, ◌<◌, ◌≤◌, Bool, true, false, ◌&&◌, ◌||◌, eqb, leb, List, [], ◌∷◌, ◌++◌, length, get_or, take, set, sym, refl, ap, ◌∙◌, ap₂, inl, inr, arith, lit<, length-set}
+use Rattle.std.proofs.Common.{◌≡◌, ℕ, zero, suc, ◌+◌, ◌/◌, ◌%◌, ◌^◌, ◌<◌, ◌≤◌, Bool, false, ◌&&◌, ◌||◌, eqb, leb, List, [], ◌∷◌, ◌++◌, length, get_or, take, set, replicate, sym, refl, ap, ◌∙◌, ap₂, inl, inr, arith, lit<, length-set}
 use mathlib.Core.Path.{subst⁻¹}
-use mathlib.Core.Bool.{or_comm, or_assoc, and-false}
+use mathlib.Core.Bool.{or_comm}
 use lib.Bits.{bit_or, or_lt}
 use lib.Pow.{pow-lt}
-use Rattle.std.proofs.lemmas.List.{take_more, get_or_past, get_or-set_same, get_or-set_other}
-use Rattle.std.proofs.lemmas.Bool.{cases_eq, eq-eqb, ne_eqb, eqb-true, le-leb, lt-leb}
+use Rattle.std.proofs.lemmas.List.{take_more, get_or-replicate, get_or_past, get_or-set_same, get_or-set_other}
+use Rattle.std.proofs.lemmas.List.Recursion.{or_push}
+use Rattle.std.proofs.lemmas.Bool.Decides.{nat_tests}
+use Rattle.std.proofs.lemmas.Bool.{cases_eq, cases_lt, ne_eqb}
 use Rattle.tokens.specs.Kinds.{SHEBANG}
 use Rattle.tokens.specs.Words.{in_words, added, each_or, OnlyTokens}
 use Rattle.tokens.specs.Sets.{has}
@@ -15,11 +17,7 @@ use Rattle.tokens.proofs.Bits.{bit, bit_or_lem, bit_pow, bit_zero, bit_high}
 
 -- a kind is known by its word and its bit in it
 same_word : (x k : ℕ) → x / 64 ≡ k / 64 → eqb (x % 64) (k % 64) ≡ eqb x k
-same_word x k e =
-    elim (cases_eq (x % 64) (k % 64)) [
-      | inl b ↦ eq-eqb _ _ b ∙ sym (eq-eqb x k (omega arith))
-      | inr b ↦ ne_eqb _ _ b ∙ sym (ne_eqb x k (λ s. b (ap (λ (n : ℕ). n % 64) s)))
-    ]
+same_word x k e = grind (arith, nat_tests)
 
 pub in_added : (x : ℕ) (words : List ℕ) → x / 64 < length words → (k : ℕ) → in_words (added x words) k ≡ (eqb x k || in_words words k)
 unfolding in_words
@@ -38,10 +36,7 @@ in_added x words h k =
     ]
 
 no_word : (i : ℕ) → get_or {A = ℕ} (0 ∷ 0 ∷ 0 ∷ []) i 0 ≡ 0
-no_word zero = refl
-no_word (suc zero) = refl
-no_word (suc (suc zero)) = refl
-no_word (suc (suc (suc i))) = refl
+no_word i = elim (cases_lt i 3) [ inl h ↦ get_or-replicate 3 i 0 0 h | inr h ↦ get_or_past (replicate 3 0) i 0 h ]
 
 pub in_none : (k : ℕ) → in_words (0 ∷ 0 ∷ 0 ∷ []) k ≡ false
 unfolding in_words
@@ -92,22 +87,9 @@ pub record Collects (words kinds : List ℕ) : Type 0 where
   pub only : OnlyTokens words
   pub members : (k : ℕ) → in_words words k ≡ (has kinds k && leb k SHEBANG)
 
-has_more : (xs : List ℕ) (x k : ℕ) → has (xs ++ x ∷ []) k ≡ (eqb x k || has xs k)
+has_more : (xs : List ℕ) (x k : ℕ) → has (xs ++ x ∷ []) k ≡ (has xs k || eqb x k)
 unfolding has
-has_more [] x k = refl
-has_more (y ∷ ys) x k =
-    ap (λ (b : Bool). eqb y k || b) (has_more ys x k)
-    ∙ sym (or_assoc (eqb y k) (eqb x k) (has ys k))
-    ∙ ap (λ (b : Bool). b || has ys k) (or_comm (eqb y k) (eqb x k))
-    ∙ or_assoc (eqb x k) (eqb y k) (has ys k)
-
-taken_in : (e h s : Bool) → (e ≡ true → s ≡ true) → (e || (h && s)) ≡ ((e || h) && s)
-taken_in true h s f = sym (f refl)
-taken_in false h s f = refl
-
-left_out : (e h s : Bool) → (e ≡ true → s ≡ false) → (h && s) ≡ ((e || h) && s)
-left_out true h s f = ap (λ (b : Bool). h && b) (f refl) ∙ and-false h ∙ sym (f refl)
-left_out false h s f = refl
+has_more xs x k = or_push (λ ys. has ys k) (λ y. eqb y k) refl (λ _ _. refl) xs x
 
 pub collects_none : Collects (0 ∷ 0 ∷ 0 ∷ []) []
 unfolding has
@@ -119,11 +101,7 @@ collects_token words xs x h so_far =
     record {
       three = length-set words (x / 64) _ ∙ three;
       only = only_added x words three h so_far.only;
-      members = λ k.
-          in_added x words (omega arith) k
-          ∙ ap (λ (b : Bool). eqb x k || b) (so_far.members k)
-          ∙ taken_in (eqb x k) (has xs k) (leb k SHEBANG) (λ e. le-leb k SHEBANG (omega (arith, eqb-true x k e)))
-          ∙ ap (λ (b : Bool). b && leb k SHEBANG) (sym (has_more xs x k));
+      members = λ k. grind (arith, nat_tests, in_added x words (omega arith) k, so_far.members k, has_more xs x k);
     }
 
 collects_other : (words xs : List ℕ) (x : ℕ) → SHEBANG < x → Collects words xs → Collects words (xs ++ x ∷ [])
@@ -131,24 +109,17 @@ collects_other words xs x h so_far =
     record {
       three = so_far.three;
       only = so_far.only;
-      members = λ k.
-          so_far.members k
-          ∙ left_out (eqb x k) (has xs k) (leb k SHEBANG) (λ e. lt-leb k SHEBANG (omega (arith, eqb-true x k e)))
-          ∙ ap (λ (b : Bool). b && leb k SHEBANG) (sym (has_more xs x k));
+      members = λ k. grind (arith, nat_tests, so_far.members k, has_more xs x k);
     }
 
 -- the next kind of a list is taken in
 pub takes_in : (kinds : List ℕ) (i : ℕ) (words after : List ℕ) → i < length kinds → get_or kinds i 0 ≤ SHEBANG
     → after ≡ added (get_or kinds i 0) words → Collects words (take i kinds) → Collects after (take (i + 1) kinds)
 takes_in kinds i words after h token is so_far =
-    subst⁻¹ (λ (ks : List ℕ). Collects after ks) (take_more kinds i 0 h)
-    (subst⁻¹ (λ (ws : List ℕ). Collects ws (take i kinds ++ get_or kinds i 0 ∷ [])) is
-    (collects_token words (take i kinds) (get_or kinds i 0) token so_far))
+    rw (take_more kinds i 0 h, is) (collects_token words (take i kinds) (get_or kinds i 0) token so_far)
 
 -- the next kind of a list is left out
 pub leaves_out : (kinds : List ℕ) (i : ℕ) (words after : List ℕ) → i < length kinds → SHEBANG < get_or kinds i 0 → after ≡ words
     → Collects words (take i kinds) → Collects after (take (i + 1) kinds)
 leaves_out kinds i words after h other is so_far =
-    subst⁻¹ (λ (ks : List ℕ). Collects after ks) (take_more kinds i 0 h)
-    (subst⁻¹ (λ (ws : List ℕ). Collects ws (take i kinds ++ get_or kinds i 0 ∷ [])) is
-    (collects_other words (take i kinds) (get_or kinds i 0) other so_far))
+    rw (take_more kinds i 0 h, is) (collects_other words (take i kinds) (get_or kinds i 0) other so_far)

@@ -1,6 +1,4 @@
-use Rattle.std.proofs.Common.{ℕ, List, subst}
-use Rattle.std.proofs.lemmas.List.{take_all}
-use Rattle.tokens.proofs.Members.{Collects, collects_none, takes_in, leaves_out}
+use Rattle.tokens.proofs.Members.{collects_none, takes_in, leaves_out}
 use Rattle.tokens.proofs.token_set.TokenSet.new.Goals as goal
 use Rattle.tokens.proofs.token_set.TokenSet.new.Goals.{then-kind-le-SHEBANG, else-kind-le-SHEBANG}
 
