@@ -86,6 +86,8 @@ impl<'a> Parser<'a> {
         }
     }
 
+    // That a call has not gone back behind its beginning ties a checkpoint to a parser, so it is asked of each call below.
+
     /// A call ends: accepted, it answers what it took; refused, place and count are put back and the records after them are blank again.
     pub fn conclude(&mut self, began: Checkpoint, r: Result<(), Refusal>) -> Result<Taken, Refusal>
         requires { Since began self.old }
