@@ -43,11 +43,11 @@ repeat_unroll {S = S} b s e c i l h =
 
 pub wind_stop : (m : ℕ) (t : Node → Bool) (f : Node → Out (Held ℕ)) (n : Node) → t n ≡ false → wind (suc m) t f n ≡ ok nil (record { held = n; answer = tt })
 unfolding wind
-wind_stop m t f n p = ap (λ (b : Bool). elim b as (λ _. Out (Held (Unit {0}))) [ true ↦ on_node (f n) (λ _. wind m t f) | false ↦ ok nil (record { held = n; answer = tt {0} }) ]) p
+wind_stop m t f n p = rw (wind, p) refl
 
 pub wind_go : (m : ℕ) (t : Node → Bool) (f : Node → Out (Held ℕ)) (n : Node) → t n ≡ true → wind (suc m) t f n ≡ on_node (f n) (λ _. wind m t f)
 unfolding wind
-wind_go m t f n p = ap (λ (b : Bool). elim b as (λ _. Out (Held (Unit {0}))) [ true ↦ on_node (f n) (λ _. wind m t f) | false ↦ ok nil (record { held = n; answer = tt {0} }) ]) p
+wind_go m t f n p = rw (wind, p) refl
 
 module _ (t : Env → ℕ → Bool) (b : Prog ℕ) (e : Env) (c i : ℕ) (n : Node) where
   -- where the test does not hold, nothing more precedes the node by this loop
