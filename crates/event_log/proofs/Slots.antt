@@ -86,9 +86,6 @@ pub concludes_ok : {c : Checkpoint} {l : Parser} {t : Taken} (r : Result (Unit {
 concludes_ok (Ok x) h a b = accepted refl a b
 concludes_ok (Err e) h a b = absurd (h e refl)
 
-pub concludes_no : {c : Checkpoint} {l m : Parser} {e : Refusal} {r : Result (Unit {0}) Refusal} → r ≡ Err e → PutsBack c l m → Concludes c l m r (Err e)
-concludes_no e h = rw e (taken_back h)
-
 -- all blank from the start
 pub all_blank_filled : {l : List Record} (i n : ℕ) → l ≡ replicate n blank → all_blank (drop i l) ≡ true
 all_blank_filled i n e = ap (λ (xs : List Record). all_blank (drop i xs)) e ∙ ap all_blank (drop-replicate i n blank) ∙ are_all_blank (n - i)

@@ -92,13 +92,9 @@ pub wraps_exits : {X Y A B : Type 0} {show : X → CompletedMarker × A} {show' 
 wraps_exits {show' = show'} {k = k} f r p = wraps_exit {show = show'} (wraps_fail {show' = show'} {k = k} f) r p
 
 -- the marker alone
-wind_only : {w : Wraps ℕ} {b : State} {n : Node} {t : State} {r : Result CompletedMarker Refusal} → Winds by_kind w b n t r → Winds only (w >- λ _. end tt) b n t r
-unfolding precede on_node
-wind_only {b = b} (wound m e p) = wound m (ap (λ o. on_node o (λ _. precede (end tt) b.env (length b.recs) b.place)) e) p
-wind_only {b = b} (unwound rs v e g) = unwound rs v (ap (λ o. on_node o (λ _. precede (end tt) b.env (length b.recs) b.place)) e) g
-
 pub wraps_only : {w : Wraps ℕ} {c : CompletedMarker} {s t : State} {r : Result CompletedMarker Refusal} → Precedes by_kind w c s t r → Precedes only (w >- λ _. end tt) c s t r
-wraps_only f b n h = wind_only (f b n h)
+wraps_only {r = Ok d} f = wraps_then {show = by_kind} {show' = only} f (wraps_end only d)
+wraps_only {r = Err e} f = wraps_fail {show = by_kind} {show' = only} f
 
 -- A node that precedes another one
 
