@@ -1,5 +1,6 @@
 -- A node: its start, its body, its end, and what then precedes it.
 use Rattle.std.proofs.Common.{◌≡◌, ℕ, List, [], ◌∷◌, length, Some, None, Ok, Err, Option, Result, sym, ap, ◌∙◌, append-nil, add-zero, arith, length-append}
+use Rattle.std.specs.Result.{result_map_both}
 use Rattle.event_log.specs.declared.event.Record.{Record}
 use Rattle.event_log.specs.declared.event.Record.TheVariants.{Finish}
 use Rattle.refusals.specs.declared.Refusal.{Refusal}
@@ -81,8 +82,7 @@ settles {body = body} {w} {s} st (did f e g) h = let i = inside st g in settled 
 settles {body = body} {w} {s} st (refused rs n e g) h = passes body w st e (h s rs n (inside st g))
 
 abbrev pub some_of : Result CompletedMarker Refusal → Result (Option CompletedMarker) Refusal
-some_of (Ok c) = Ok (Some c)
-some_of (Err e) = Err e
+some_of = result_map_both Some (λ e. e)
 
 as_settled : {A : Type 0} {b : State} {rs : List Record} {w k : ℕ} {s t : State} {r : Result A Refusal} {x : Result CompletedMarker Refusal}
     → Finished b rs w k s t r x → Settled b rs w s t (answers (Some k) r) (some_of x)

@@ -1,6 +1,7 @@
 -- How what one call does joins with what the next one does. The lemmas go by the shape of the code:
 -- a proof of a grammar function is one term of them for each way through it.
 use Rattle.std.proofs.Common.{◌≡◌, ℕ, suc, ◌+◌, ◌-◌, ◌<◌, ◌≤◌, Bool, true, false, cond, List, [], ◌∷◌, ◌++◌, length, IsErrAnd, Ok, Err, Option, Result, sym, refl, ap, ◌∙◌, subst, add-zero, zero-add, arith}
+use Rattle.std.specs.Result.{result_map_both}
 use Rattle.event_log.specs.declared.event.Record.{Record}
 use Rattle.event_log.specs.declared.event.Record.TheVariants.{Token, Error}
 use Rattle.refusals.specs.declared.Refusal.{Refusal}
@@ -58,8 +59,7 @@ fails {k = k} {s} (refused rs w d g) = refused rs w (ap (λ o. next o (λ x. run
 
 -- an answer in the place of the one that a call gives, and a call that is followed by it
 abbrev pub answers : {A B : Type 0} → B → Result A Refusal → Result B Refusal
-answers b (Ok a) = Ok b
-answers b (Err e) = Err e
+answers b = result_map_both (λ _. b) (λ e. e)
 
 pub then_gives : {A B : Type 0} {m : Prog A} {b : B} {s t : State} {r : Result A Refusal} → Does m s t r → Does (m >> give b) s t (answers b r)
 then_gives (did f e g) = then (did f e g) gives

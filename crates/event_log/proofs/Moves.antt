@@ -1,5 +1,5 @@
 -- Which calls move on, so that a loop over them ends.
-use Rattle.std.proofs.Common.{◌≡◌, ℕ, ◌+◌, ◌-◌, ◌<◌, ◌≤◌, Bool, true, false, cond, ltb, List, length, Ok, Err, Result, sym, refl, ap, ◌∙◌, arith}
+use Rattle.std.proofs.Common.{◌≡◌, ℕ, ◌+◌, ◌-◌, ◌<◌, ◌≤◌, Bool, true, false, cond, List, length, Ok, Err, Result, sym, refl, ap, ◌∙◌, arith}
 use Rattle.std.proofs.lemmas.Bool.{false≢true}
 use Rattle.event_log.specs.declared.event.Record.{Record}
 use Rattle.refusals.specs.declared.Refusal.{Refusal}
@@ -8,14 +8,12 @@ use Rattle.event_log.specs.declared.marker.CompletedMarker.{CompletedMarker}
 use Rattle.tokens.specs.declared.composite.RawTokens.{RawTokens}
 use Rattle.tokens.specs.declared.composite.RawTokens.TheVariants.{One, Two, Three}
 use Rattle.tokens.specs.Parts.{parts, length_of, width}
-use Rattle.event_log.specs.Forest.{Tree, Node, Forest, ◌<>◌, wide, wides, wide_node}
-use Rattle.event_log.specs.Forest.Tree.{token}
-use Rattle.event_log.specs.Forest.Forest.{nil, cons}
-use Rattle.event_log.specs.Program.{Env, Prog, Out, grow, next, record_due, present, spells, run, ◌>>◌}
+use Rattle.event_log.specs.Forest.{Node, Forest, wide, wides, wide_node}
+use Rattle.event_log.specs.Forest.Forest.{nil}
+use Rattle.event_log.specs.Program.{Env, Prog, present, run, ◌>>◌}
 use Rattle.event_log.specs.Program.Prog.{give, take, ◌>>=◌}
-use Rattle.event_log.specs.Program.Out.{ok, no, never}
+use Rattle.event_log.specs.Program.Out.{ok}
 use Rattle.event_log.specs.Steps.{bump, eat}
-use Rattle.refusals.specs.declared.Refusal.TheVariants.{LogFull}
 use Rattle.event_log.specs.Model.{State, Grown, from, Does}
 use Rattle.event_log.specs.Marks.{Inside, Finished, Pending, Last, Led}
 use Rattle.event_log.specs.Model.Does.{did, refused}

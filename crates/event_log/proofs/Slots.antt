@@ -11,8 +11,8 @@ use Rattle.event_log.specs.declared.records.Taken.{Taken}
 use Rattle.event_log.specs.declared.records.Checkpoint.{Checkpoint}
 use Rattle.event_log.specs.Sound.{is_blank, all_blank}
 use Rattle.event_log.specs.Forest.{blank}
-use Rattle.event_log.specs.Model.{of, blanked, filled, PutsBack, Concludes}
-use Rattle.event_log.specs.Model.Concludes.{accepted, taken_back}
+use Rattle.event_log.specs.Model.{of, blanked, filled, Concludes}
+use Rattle.event_log.specs.Model.Concludes.{accepted}
 
 -- how many records a parser has
 pub counted : (p : Parser) → length (of p).recs ≡ p.count

@@ -4,11 +4,11 @@ use Rattle.std.proofs.Common.{◌≡◌, ℕ, suc, ◌+◌, ◌-◌, ◌<◌, �
 use Rattle.event_log.specs.Forest.{Node, Forest, wides, wide_node}
 use Rattle.event_log.specs.Forest.Node.{wrap}
 use Rattle.event_log.specs.Forest.Forest.{nil}
-use Rattle.event_log.specs.Program.{Env, Prog, Turn, Out, Held, size, size_node, grow, next, turned, spin, turns, on_node, wind, run, precede}
+use Rattle.event_log.specs.Program.{Env, Prog, Turn, Out, Held, size, size_node, turned, spin, turns, on_node, wind, run, precede}
 use Rattle.event_log.specs.Program.Prog.{give, ◌>>=◌, repeat}
 use Rattle.event_log.specs.Program.Wraps.{◌>-◌, around, many}
 use Rattle.event_log.specs.Program.Turn.{again, done}
-use Rattle.event_log.specs.Program.Out.{ok, no, never}
+use Rattle.event_log.specs.Program.Out.{ok}
 use Rattle.event_log.specs.Settling.{Settled}
 use Rattle.event_log.proofs.Fuel.{next_eq, spin_more, on_node_eq, wind_more}
 use Rattle.event_log.proofs.Spelling.{run_fine}

@@ -28,7 +28,7 @@ use Rattle.event_log.proofs.Unrolling.{wind_go, wind_stop}
 use Rattle.event_log.proofs.Sizes.{length_flat_node}
 use Rattle.event_log.proofs.Due.{due_ok, due_no, completed_ok}
 use Rattle.event_log.proofs.Growth.{faultless_append, grown_then, records}
-use Rattle.event_log.proofs.Kit.{full_no, inside, opens, begun, ended, refuses, ends, gives, then, fails, answers, then_gives}
+use Rattle.event_log.proofs.Kit.{full_no, inside, opens, begun, ended, refuses, ends, gives, answers, then_gives}
 
 -- What precedes a node
 
