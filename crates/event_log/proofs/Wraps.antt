@@ -143,11 +143,13 @@ around_is body b n (started at lt g) =
     (ap (λ (c : ℕ). run body b.env (c + 1) (b.place + wide_node n)) (sym (length_after b n)) ∙ begun (run body) g)
 
 -- and where its body has answered
-wrapped_is : (k : ℕ) (b : State) (n : Node) {u : State} (f : Forest) → Grown (after b n) u (blank ∷ flats f) (wides f)
-    → wrapped b.env (length b.recs) b.place n (ok f k) ≡ completed_at u.env k (length u.recs) u.place (ok nil (record { held = wrap n k f; answer = k }))
+wrapped_is : (body : Prog ℕ) (b : State) (n : Node) {t u : State} {m : Marker} {k : ℕ} (f : Forest)
+    → Starts (after b n) t (Ok m) → from body t ≡ ok f k → Grown (after b n) u (blank ∷ flats f) (wides f)
+    → outcome (around body) b n ≡ completed_at u.env k (length u.recs) u.place (ok nil (record { held = wrap n k f; answer = k }))
 unfolding wrapped
-wrapped_is k b n f g =
-    ap (λ (c : ℕ). completed_at b.env k (c + 1 + size f) (b.place + wide_node n + wides f) (ok nil (record { held = wrap n k f; answer = k }))) (sym (length_after b n))
+wrapped_is body b n {k = k} f st e g =
+    around_is body b n st ∙ ap (wrapped b.env (length b.recs) b.place n) e
+    ∙ ap (λ (c : ℕ). completed_at b.env k (c + 1 + size f) (b.place + wide_node n + wides f) (ok nil (record { held = wrap n k f; answer = k }))) (sym (length_after b n))
     ∙ ended f (λ e c i. completed_at e k c i (ok nil (record { held = wrap n k f; answer = k }))) g
 
 -- what the program's body answered decides
@@ -161,12 +163,12 @@ finished : (body : Prog ℕ) (b : State) (n : Node) {t u v : State} {m : Marker}
 unfolding flat_node wide_node own kind_of
 finished body b n {k = k} f st e i (closed nz lt g at to kind) =
     wound (wrap n k f)
-    (around_is body b n st ∙ ap (wrapped b.env (length b.recs) b.place n) e ∙ wrapped_is k b n f i.grown ∙ completed_ok _ k _ _ _ nz lt
+    (wrapped_is body b n f st e i.grown ∙ completed_ok _ k _ _ _ nz lt
     ∙ ap (λ (j : ℕ). ok nil (record { held = wrap n k f; answer = j })) (sym kind))
     (record { grown = grown_then (since b n) g; start = omega (arith, at, records g, length-append (flats f) (Finish ∷ [])); end = to; kind = kind })
 finished body b n {k = k} f st e i (unclosed more z why g) =
     unwound _ _
-    (around_is body b n st ∙ ap (wrapped b.env (length b.recs) b.place n) e ∙ wrapped_is k b n f i.grown ∙ refuses _ z why)
+    (wrapped_is body b n f st e i.grown ∙ refuses _ z why)
     (grown_then (since b n) g)
 
 around_passes : (body : Prog ℕ) (b : State) (n : Node) {t u v : State} {m : Marker} {e : Refusal} {x : Result CompletedMarker Refusal} {rs : List Record} {w : ℕ}
