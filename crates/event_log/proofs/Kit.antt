@@ -183,8 +183,8 @@ again_is : {S : Type 0} (b : S → Prog (Turn S)) (x y : S) {s t : State} (f : F
     → from (repeat b x) s ≡ grow f (from (repeat b y) t)
 unfolding run next turned
 again_is b x y {s} {t} f e g lt le finite =
-    turn_is b x s within ∙ ap (λ o. next o (λ t. turned t (rest b s)) (length s.recs) s.place) e
-    ∙ ap (grow f) (spin_more _ _ _ y _ _ fewer (settled_ends _ (λ q. finite (past f (run (repeat b y)) g ∙ q))) ∙ sym (past f (run (repeat b y)) g))
+    turn_is b x s within
+    ∙ rw e (ap (grow f) (spin_more _ _ _ y _ _ fewer (settled_ends _ (λ q. finite (past f (run (repeat b y)) g ∙ q))) ∙ sym (past f (run (repeat b y)) g)))
   where
     kinds : length t.env.kinds ≡ length s.env.kinds
     kinds = ap (λ (e : Env). length e.kinds) g.same

@@ -68,7 +68,7 @@ unfolding precede on_node
 wraps_then {X} {show = show} {show'} {w} {k} {t = t} {u} {x} {r} f g b n h = go (f b n h)
   where
     go : Winds show w b n t (Ok x) → Winds show' (w >- k) b n u r
-    go (wound m e p) = winds_as (w >- k) (k (show x).1) n m (ap (λ o. on_node o (λ a. precede (k a) b.env (length b.recs) b.place)) e) (g b m p)
+    go (wound m e p) = winds_as (w >- k) (k (show x).1) n m (rw e refl) (g b m p)
 
 pub wraps_fail : {X Y A B : Type 0} {show : X → CompletedMarker × A} {show' : Y → CompletedMarker × B} {w : Wraps A} {k : A → Wraps B} {c : CompletedMarker} {s t : State} {e : Refusal}
     → Precedes show w c s t (Err e) → Precedes show' (w >- k) c s t (Err e)
@@ -76,7 +76,7 @@ unfolding precede on_node
 wraps_fail {show = show} {show'} {w} {k} {t = t} {e} f b n h = go (f b n h)
   where
     go : Winds show w b n t (Err e) → Winds show' (w >- k) b n t (Err e)
-    go (unwound rs v d g) = unwound rs v (ap (λ o. on_node o (λ a. precede (k a) b.env (length b.recs) b.place)) d) g
+    go (unwound rs v d g) = unwound rs v (rw d refl) g
 
 -- the exit of a `?`
 pub wraps_exit : {X Y A : Type 0} {show : X → CompletedMarker × A} {show' : Y → CompletedMarker × A} {w : Wraps A} {c : CompletedMarker} {s t : State} {e : Refusal}
@@ -285,7 +285,7 @@ many_off : (t : Env → ℕ → Bool) (body : Prog ℕ) {b : State} {n : Node} {
     → Pending b n c s → t s.env s.place ≡ true → s.place ≤ length s.env.kinds → Winds by_kind (around body) b n u (Err e) → Winds only (many t body) b n u (Err e)
 unfolding on_node
 many_off t body {b} {n} h e le (unwound rs v d g) =
-    unwound rs v (many_true t body h e le ∙ ap (λ o. on_node o (λ _. wind (turns_left b n) (tested t b) (outcome (around body) b))) d) g
+    unwound rs v (many_true t body h e le ∙ rw d refl) g
 
 pub many_fail : {t : Env → ℕ → Bool} {body : Prog ℕ} {c : CompletedMarker} {s u : State} {e : Refusal}
     → t s.env s.place ≡ true → s.place ≤ length s.env.kinds → Precedes by_kind (around body) c s u (Err e) → Precedes only (many t body) c s u (Err e)
