@@ -27,9 +27,6 @@ pub spells_raw : (e : Env) (i k : ℕ) → (kind_at e i ≡ EOF → ⊥) → kin
 unfolding spells
 spells_raw e i k n h = or_left _ _ (and_from true (not (eqb (kind_at e i) EOF) && eqb (kind_at e i) k) refl (and_from _ _ (not_from_false _ (ne_eqb _ _ n)) (eq-eqb _ _ h)))
 
-pub readable_as : (e : Env) (i k : ℕ) → (kind_at e i ≡ EOF → ⊥) → (k ≡ EOF → ⊥) → eqb (contextual_at e i) k ≡ true → readable e i k ≡ true
-readable_as e i k n m h = and_from _ _ (not_from_false _ (ne_eqb _ _ n)) (and_from _ _ (not_from_false _ (ne_eqb _ _ m)) h)
-
 -- what can be read as a keyword is there
 pub readable_there : (e : Env) (i k : ℕ) → readable e i k ≡ true → eqb (kind_at e i) EOF ≡ false
 readable_there e i k h = not-true _ (and_parts (not (eqb (kind_at e i) EOF)) _ h).0

@@ -1,5 +1,6 @@
 -- A node: its start, its body, its end, and what then precedes it.
 use Rattle.std.proofs.Common.{◌≡◌, ℕ, List, [], ◌∷◌, length, Some, None, Ok, Err, Option, Result, sym, ap, ◌∙◌, append-nil, add-zero, arith, length-append}
+use Rattle.std.specs.Result.{result_map_both}
 use Rattle.event_log.specs.declared.event.Record.{Record}
 use Rattle.event_log.specs.declared.event.Record.TheVariants.{Finish}
 use Rattle.refusals.specs.declared.Refusal.{Refusal}
@@ -48,23 +49,25 @@ chain_is : {A : Type 0} (body : Prog (Option ℕ)) (w : ℕ → Wraps A) {s t : 
 unfolding run
 chain_is body w {s} (started at lt g) = due_ok _ _ _ _ lt ∙ ap (closed_since w s) (begun (run body) g)
 
+-- and where its body has answered with a kind
+closed_is : {A : Type 0} (body : Prog (Option ℕ)) (w : ℕ → Wraps A) {s t u : State} {m : Marker} {k : ℕ} (f : Forest)
+    → Starts s t (Ok m) → from body t ≡ ok f (Some k) → Inside s (flats f) (wides f) m u
+    → from (chain body w) s ≡ completed_at u.env k (length u.recs) u.place (in_forest (outcome (w k) s (node k f)))
+unfolding ClosedAt
+closed_is body w {s} {k = k} f st e i =
+    chain_is body w st ∙ ap (closed_since w s) e ∙ ended f (λ e c i. completed_at e k c i (in_forest (outcome (w k) s (node k f)))) i.grown
+
 -- the body has answered
 settled : {A : Type 0} (body : Prog (Option ℕ)) (w : ℕ → Wraps A) {s t u v : State} {m : Marker} {a : Option ℕ} {x : Result (Option CompletedMarker) Refusal} (f : Forest)
     → Starts s t (Ok m) → from body t ≡ ok f a → Inside s (flats f) (wides f) m u → Settled s (flats f) (wides f) u v (Ok a) x → Chained body w s v x
 unfolding ClosedAt flats wides flat wide flat_node wide_node own kind_of
 settled body w {s} f st e i (completed {k = k} (closed nz lt g at to kind)) =
     held k f
-    (chain_is body w st ∙ ap (closed_since w s) e
-    ∙ ended f (λ e c i. completed_at e k c i (in_forest (outcome (w k) s (node k f)))) i.grown
-    ∙ completed_ok _ k _ _ _ nz lt)
+    (closed_is body w f st e i ∙ completed_ok _ k _ _ _ nz lt)
     (record { grown = g; start = omega (arith, at, records g, length-append (flats f) (Finish ∷ [])); end = to; kind = kind })
     kind
 settled body w {s} f st e i (uncompleted {k = k} (unclosed more nz why g)) =
-    failed more _
-    (chain_is body w st ∙ ap (closed_since w s) e
-    ∙ ended f (λ e c i. completed_at e k c i (in_forest (outcome (w k) s (node k f)))) i.grown
-    ∙ refuses _ nz why)
-    g
+    failed more _ (closed_is body w f st e i ∙ refuses _ nz why) g
 settled body w {s} f st e i (abandoned g) =
     left (cons (gone f) nil) (chain_is body w st ∙ ap (closed_since w s) e) (grown_as (sym (append-nil _)) (sym (add-zero _)) g)
 
@@ -81,8 +84,7 @@ settles {body = body} {w} {s} st (did f e g) h = let i = inside st g in settled 
 settles {body = body} {w} {s} st (refused rs n e g) h = passes body w st e (h s rs n (inside st g))
 
 abbrev pub some_of : Result CompletedMarker Refusal → Result (Option CompletedMarker) Refusal
-some_of (Ok c) = Ok (Some c)
-some_of (Err e) = Err e
+some_of = result_map_both Some (λ e. e)
 
 as_settled : {A : Type 0} {b : State} {rs : List Record} {w k : ℕ} {s t : State} {r : Result A Refusal} {x : Result CompletedMarker Refusal}
     → Finished b rs w k s t r x → Settled b rs w s t (answers (Some k) r) (some_of x)

@@ -1,6 +1,5 @@
 -- A loop that has come to an answer or a refusal comes to the same with more turns allowed.
 use Rattle.std.proofs.Common.{◌≡◌, ℕ, zero, suc, ◌+◌, ◌≤◌, Bool, true, false, sym, refl, ap, ◌∙◌, subst, le_of_suc-le-suc, not-suc-le-zero}
-use Rattle.refusals.specs.declared.Refusal.{Refusal}
 use Rattle.event_log.specs.Forest.{Node, Forest, wides}
 use Rattle.event_log.specs.Forest.Forest.{nil}
 use Rattle.event_log.specs.Program.{Turn, Out, Held, size, grow, next, turned, spin, on_node, wind}

@@ -1,5 +1,5 @@
 -- How a log grows: its records, its place, and whether it is clean.
-use Rattle.std.proofs.Common.{◌≡◌, ℕ, ◌+◌, Bool, true, false, ◌&&◌, List, [], ◌∷◌, ◌++◌, length, Option, sym, refl, ap, ◌∙◌, append_assoc, append-nil, add-zero, add_assoc, length-append}
+use Rattle.std.proofs.Common.{◌≡◌, ℕ, ◌+◌, Bool, true, ◌&&◌, List, [], ◌∷◌, ◌++◌, length, Option, sym, refl, ap, ◌∙◌, append_assoc, append-nil, add-zero, add_assoc, length-append}
 use Rattle.std.proofs.Math.Bool.{and-true, and_assoc}
 use Rattle.event_log.specs.declared.event.Record.{Record}
 use Rattle.event_log.specs.declared.event.Record.TheVariants.{Start, Finish, Token, Error}

@@ -1,6 +1,7 @@
 -- How what one call does joins with what the next one does. The lemmas go by the shape of the code:
 -- a proof of a grammar function is one term of them for each way through it.
 use Rattle.std.proofs.Common.{◌≡◌, ℕ, suc, ◌+◌, ◌-◌, ◌<◌, ◌≤◌, Bool, true, false, cond, List, [], ◌∷◌, ◌++◌, length, IsErrAnd, Ok, Err, Option, Result, sym, refl, ap, ◌∙◌, subst, add-zero, zero-add, arith}
+use Rattle.std.specs.Result.{result_map_both}
 use Rattle.event_log.specs.declared.event.Record.{Record}
 use Rattle.event_log.specs.declared.event.Record.TheVariants.{Token, Error}
 use Rattle.refusals.specs.declared.Refusal.{Refusal}
@@ -45,7 +46,7 @@ stops {s = s} p = refused [] 0 (ap {B = _} (λ (x : Refusal). no x) (sym p)) (st
 next_ok : {A B : Type 0} (m : Prog A) (k : A → Prog B) {s t : State} {a : A} (f : Forest) → from m s ≡ ok f a → Grown s t (flats f) (wides f)
     → from (m >>= k) s ≡ grow f (from (k a) t)
 unfolding run next
-next_ok m k {s} {t} {a} f e g = ap (λ o. next o (λ x. run (k x) s.env) (length s.recs) s.place) e ∙ ap (grow f) (sym (past f (run (k a)) g))
+next_ok m k {a = a} f e g = rw e (ap (grow f) (sym (past f (run (k a)) g)))
 
 pub then : {A B : Type 0} {m : Prog A} {k : A → Prog B} {s t u : State} {a : A} {r : Result B Refusal} → Does m s t (Ok a) → Does (k a) t u r → Does (m >>= k) s u r
 unfolding grow
@@ -54,12 +55,11 @@ then {m = m} {k} (did f e g) (refused rs w d i) = refused (flats f ++ rs) (wides
 
 pub fails : {A B : Type 0} {m : Prog A} {k : A → Prog B} {s t : State} {e : Refusal} → Does m s t (Err e) → Does (m >>= k) s t (Err e)
 unfolding run next
-fails {k = k} {s} (refused rs w d g) = refused rs w (ap (λ o. next o (λ x. run (k x) s.env) (length s.recs) s.place) d) g
+fails (refused rs w d g) = refused rs w (rw d refl) g
 
 -- an answer in the place of the one that a call gives, and a call that is followed by it
 abbrev pub answers : {A B : Type 0} → B → Result A Refusal → Result B Refusal
-answers b (Ok a) = Ok b
-answers b (Err e) = Err e
+answers b = result_map_both (λ _. b) (λ e. e)
 
 pub then_gives : {A B : Type 0} {m : Prog A} {b : B} {s t : State} {r : Result A Refusal} → Does m s t r → Does (m >> give b) s t (answers b r)
 then_gives (did f e g) = then (did f e g) gives
@@ -183,8 +183,8 @@ again_is : {S : Type 0} (b : S → Prog (Turn S)) (x y : S) {s t : State} (f : F
     → from (repeat b x) s ≡ grow f (from (repeat b y) t)
 unfolding run next turned
 again_is b x y {s} {t} f e g lt le finite =
-    turn_is b x s within ∙ ap (λ o. next o (λ t. turned t (rest b s)) (length s.recs) s.place) e
-    ∙ ap (grow f) (spin_more _ _ _ y _ _ fewer (settled_ends _ (λ q. finite (past f (run (repeat b y)) g ∙ q))) ∙ sym (past f (run (repeat b y)) g))
+    turn_is b x s within
+    ∙ rw e (ap (grow f) (spin_more _ _ _ y _ _ fewer (settled_ends _ (λ q. finite (past f (run (repeat b y)) g ∙ q))) ∙ sym (past f (run (repeat b y)) g)))
   where
     kinds : length t.env.kinds ≡ length s.env.kinds
     kinds = ap (λ (e : Env). length e.kinds) g.same
@@ -206,12 +206,11 @@ turn_again {b = b} {x} {y} (did f e g) lt le (refused rs w d i) =
 pub last_turn : {S : Type 0} {b : S → Prog (Turn S)} {x y : S} {s t : State} → s.place ≤ length s.env.kinds → Does (b x) s t (Ok (done y)) → Does (repeat b x) s t (Ok y)
 unfolding next turned grow
 last_turn {b = b} {x} {y} {s} le (did f e g) =
-    did f (turn_is b x s le ∙ ap (λ o. next o (λ t. turned t (rest b s)) (length s.recs) s.place) e ∙ ap (λ (h : Forest). ok h y) (nil_right f)) g
+    did f (turn_is b x s le ∙ rw e (ap (λ (h : Forest). ok h y) (nil_right f))) g
 
 pub last_no : {S : Type 0} {b : S → Prog (Turn S)} {x : S} {s t : State} {e : Refusal} → s.place ≤ length s.env.kinds → Does (b x) s t (Err e) → Does (repeat b x) s t (Err e)
 unfolding next
-last_no {b = b} {x} {s} le (refused rs w e g) =
-    refused rs w (turn_is b x s le ∙ ap (λ o. next o (λ t. turned t (rest b s)) (length s.recs) s.place) e) g
+last_no {b = b} {x} {s} le (refused rs w e g) = refused rs w (turn_is b x s le ∙ rw e refl) g
 
 -- the exit of a `?` in a turn
 pub last_exit : {S : Type 0} {b : S → Prog (Turn S)} {x : S} {s t : State} {e : Refusal} → s.place ≤ length s.env.kinds → Does (b x) s t (Err e)

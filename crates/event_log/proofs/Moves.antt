@@ -1,5 +1,5 @@
 -- Which calls move on, so that a loop over them ends.
-use Rattle.std.proofs.Common.{◌≡◌, ℕ, ◌+◌, ◌-◌, ◌<◌, ◌≤◌, Bool, true, false, cond, ltb, List, length, Ok, Err, Result, sym, refl, ap, ◌∙◌, arith}
+use Rattle.std.proofs.Common.{◌≡◌, ℕ, ◌+◌, ◌-◌, ◌<◌, ◌≤◌, Bool, true, false, cond, List, length, Ok, Err, Result, sym, refl, ap, ◌∙◌, arith}
 use Rattle.std.proofs.lemmas.Bool.{false≢true}
 use Rattle.event_log.specs.declared.event.Record.{Record}
 use Rattle.refusals.specs.declared.Refusal.{Refusal}
@@ -8,14 +8,12 @@ use Rattle.event_log.specs.declared.marker.CompletedMarker.{CompletedMarker}
 use Rattle.tokens.specs.declared.composite.RawTokens.{RawTokens}
 use Rattle.tokens.specs.declared.composite.RawTokens.TheVariants.{One, Two, Three}
 use Rattle.tokens.specs.Parts.{parts, length_of, width}
-use Rattle.event_log.specs.Forest.{Tree, Node, Forest, ◌<>◌, wide, wides, wide_node}
-use Rattle.event_log.specs.Forest.Tree.{token}
-use Rattle.event_log.specs.Forest.Forest.{nil, cons}
-use Rattle.event_log.specs.Program.{Env, Prog, Out, grow, next, record_due, present, spells, run, ◌>>◌}
+use Rattle.event_log.specs.Forest.{Node, Forest, wide, wides, wide_node}
+use Rattle.event_log.specs.Forest.Forest.{nil}
+use Rattle.event_log.specs.Program.{Env, Prog, present, run, ◌>>◌}
 use Rattle.event_log.specs.Program.Prog.{give, take, ◌>>=◌}
-use Rattle.event_log.specs.Program.Out.{ok, no, never}
+use Rattle.event_log.specs.Program.Out.{ok}
 use Rattle.event_log.specs.Steps.{bump, eat}
-use Rattle.refusals.specs.declared.Refusal.TheVariants.{LogFull}
 use Rattle.event_log.specs.Model.{State, Grown, from, Does}
 use Rattle.event_log.specs.Marks.{Inside, Finished, Pending, Last, Led}
 use Rattle.event_log.specs.Model.Does.{did, refused}
@@ -99,19 +97,17 @@ Refused (Err e) = Unit {0}
 not_finished : {A : Type 0} {b : State} {rs : List Record} {w k : ℕ} {u v : State} {e : Refusal} {x : Result CompletedMarker Refusal} → Finished {A = A} b rs w k u v (Err e) x → Refused x
 not_finished (passed more g) = tt
 
-around_on : {A : Type 0} {body : Prog A} {k : ℕ} {c d : CompletedMarker} {s t u v : State} {m : Marker} {r : Result A Refusal} {rs : List Record} {w : ℕ}
-    → (b : State) (n : Node) → Pending b n c s → Led b n s t (Ok m) → Does body t u r → Inside (after b n) rs w m u → Finished (after b n) rs w k u v r (Ok d)
-    → ((a : A) → Does body t u (Ok a) → Moves t u) → Moves s v
-around_on b n h l (did f e g) i (completed (closed nz lt g' at to kind)) mv =
+around_on : {A : Type 0} {a : A} {k : ℕ} {c d : CompletedMarker} {b s t u v : State} {n : Node} {m : Marker} {rs : List Record} {w : ℕ}
+    → Pending b n c s → Led b n s t (Ok m) → Inside (after b n) rs w m u → Finished (after b n) rs w k u v (Ok a) (Ok d) → Moves t u → Moves s v
+around_on h l i (completed (closed nz lt g at to kind)) mv =
     let p = led_place l in
-    record { on = omega (arith, (mv _ (did f e g)).on, p.0, g'.place, h.grown.place, i.grown.place); same = (grown_stays g').same ∙ sym (grown_stays h.grown).same }
-around_on b n h l (refused rs w e g) i x mv = absurd (not_finished x)
+    record { on = omega (arith, mv.on, p.0, g.place, h.grown.place, i.grown.place); same = (grown_stays g).same ∙ sym (grown_stays h.grown).same }
 
 around_inside : {A : Type 0} {body : Prog A} {k : ℕ} {c d : CompletedMarker} {s t u v : State} {m : Marker} {r : Result A Refusal}
     → (b : State) (n : Node) → Pending b n c s → Led b n s t (Ok m) → Does body t u r → ((b : State) (rs : List Record) (w : ℕ) → Inside b rs w m u → Finished b rs w k u v r (Ok d))
     → ((a : A) → Does body t u (Ok a) → Moves t u) → Moves s v
-around_inside b n h l (did f e g) k mv = let i = inside (leads h l) g in around_on b n h l (did f e g) i (k (after b n) _ _ i) mv
-around_inside b n h l (refused rs w e g) k mv = let i = inside (leads h l) g in around_on b n h l (refused rs w e g) i (k (after b n) _ _ i) mv
+around_inside b n h l (did f e g) k mv = let i = inside (leads h l) g in around_on h l i (k (after b n) _ _ i) (mv _ (did f e g))
+around_inside b n h l (refused rs w e g) k mv = absurd (not_finished (k (after b n) _ _ (inside (leads h l) g)))
 
 pub around_moves : {A : Type 0} {body : Prog A} {k : ℕ} {c d : CompletedMarker} {s t u v : State} {m : Marker} {r : Result A Refusal}
     → Last c s → ((b : State) (n : Node) → Pending b n c s → Led b n s t (Ok m)) → Does body t u r

@@ -74,10 +74,6 @@ completes {rs = rs} {w} {k} {m} u c nz (pushed lt g) i e h at to kind =
 
 -- A node that is abandoned
 
-left_in_none : (rs : List Record) → length rs ≡ 0 → left_in rs ≡ []
-unfolding left_in
-left_in_none rs e = rw (nil_from_length rs e)
-
 left_in_some : (rs : List Record) → (length rs ≡ 0 → ⊥) → left_in rs ≡ blank ∷ rs
 unfolding left_in
 left_in_some [] e = absurd (e refl)
@@ -86,8 +82,8 @@ left_in_some (r ∷ rs) e = refl
 -- its start was the last record, and is taken back
 pub taken_back : {b s : State} {rs : List Record} {w : ℕ} {m : Marker} (t : State) → Inside b rs w m s → length s.recs ≡ m.at + 1
     → t.recs ≡ take m.at s.recs → Beside s t → Grown b t (left_in rs) w
-unfolding faultless
-taken_back {b} {rs = rs} {m = m} t i n e h = grown_as (sym (left_in_none rs none)) refl (record {
+unfolding faultless left_in
+taken_back {b} {rs = rs} {m = m} t i n e h = grown_as (sym (ap left_in (nil_from_length rs none))) refl (record {
   by = e ∙ ap (take m.at) i.grown.by ∙ take_at b.recs (blank ∷ rs) m.at (sym i.at) ∙ sym (append-nil _);
   place = h.place ∙ i.grown.place;
   clean = h.clean ∙ i.grown.clean ∙ ap (λ (xs : List Record). b.clean && faultless xs) (nil_from_length rs none);

@@ -7,7 +7,7 @@ use Rattle.event_log.specs.Forest.{Node, Forest, wides, wide_node}
 use Rattle.event_log.specs.Forest.Tree.{token, error}
 use Rattle.event_log.specs.Forest.Node.{node, wrap}
 use Rattle.event_log.specs.Forest.Forest.{nil, cons}
-use Rattle.event_log.specs.Program.{Env, Prog, Wraps, Turn, Out, Held, size, size_node, spells, grow, next, record_due, completed, turned, spin, turns}
+use Rattle.event_log.specs.Program.{Env, Prog, Wraps, Turn, Out, Held, size, size_node, spells, next, record_due, completed, turned, spin, turns}
 use Rattle.event_log.specs.Program.{on_node, wind, wrapped, in_forest, closed, run, precede}
 use Rattle.event_log.specs.Program.Prog.{give, stop, ◌>>=◌, here, take, fault, chain, repeat}
 use Rattle.event_log.specs.Program.Wraps.{end, see, ◌>-◌, around, many}

@@ -11,8 +11,8 @@ use Rattle.event_log.specs.declared.records.Taken.{Taken}
 use Rattle.event_log.specs.declared.records.Checkpoint.{Checkpoint}
 use Rattle.event_log.specs.Sound.{is_blank, all_blank}
 use Rattle.event_log.specs.Forest.{blank}
-use Rattle.event_log.specs.Model.{of, blanked, filled, PutsBack, Concludes}
-use Rattle.event_log.specs.Model.Concludes.{accepted, taken_back}
+use Rattle.event_log.specs.Model.{of, blanked, filled, Concludes}
+use Rattle.event_log.specs.Model.Concludes.{accepted}
 
 -- how many records a parser has
 pub counted : (p : Parser) → length (of p).recs ≡ p.count
@@ -85,9 +85,6 @@ pub concludes_ok : {c : Checkpoint} {l : Parser} {t : Taken} (r : Result (Unit {
     → t.tokens ≡ l.place - c.place → t.clean ≡ l.clean → Concludes c l l r (Ok t)
 concludes_ok (Ok x) h a b = accepted refl a b
 concludes_ok (Err e) h a b = absurd (h e refl)
-
-pub concludes_no : {c : Checkpoint} {l m : Parser} {e : Refusal} {r : Result (Unit {0}) Refusal} → r ≡ Err e → PutsBack c l m → Concludes c l m r (Err e)
-concludes_no e h = rw e (taken_back h)
 
 -- all blank from the start
 pub all_blank_filled : {l : List Record} (i n : ℕ) → l ≡ replicate n blank → all_blank (drop i l) ≡ true

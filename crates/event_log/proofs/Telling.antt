@@ -1,5 +1,6 @@
 -- The records of a forest tell what the forest tells.
 use Rattle.std.proofs.Common.{◌≡◌, ℕ, zero, suc, ◌+◌, ◌<◌, Bool, true, false, List, [], ◌∷◌, ◌++◌, length, Some, None, Option, sym, refl, ap, ◌∙◌, append_assoc, append-nil, not-suc-le-zero, arith, length-append}
+use Rattle.std.proofs.lemmas.List.{map-append}
 use Rattle.event_log.specs.declared.event.Record.{Record}
 use Rattle.event_log.specs.declared.event.Record.TheVariants.{Start, Finish, Token, Error}
 use Rattle.event_log.specs.Forest.{Tree, Node, Forest, ◌<>◌, flat, flat_node, flats, own, left_in}
@@ -29,10 +30,6 @@ kinds_append nil g h k = k
 kinds_append (cons t f) g h k = (h.0, kinds_append f g h.1 k)
 
 -- ---- chains that lead past some records
-
-pub unused_append : (xs ys : List Record) → unused (xs ++ ys) ≡ unused xs ++ unused ys
-unused_append [] ys = refl
-unused_append (x ∷ xs) ys = ap (λ us. false ∷ us) (unused_append xs ys)
 
 pub climb_past : (xs rs : List Record) → climb (Some (length xs)) (xs ++ rs) ≡ climb (Some 0) rs
 unfolding climb
@@ -71,7 +68,7 @@ Tells xs is = (rs : List Record) (us : List Bool) → tell_from (xs ++ rs) (unus
 
 tells_append : (xs ys : List Record) (is js : List Item) → Tells xs is → Tells ys js → Tells (xs ++ ys) (is ++ js)
 tells_append xs ys is js h k rs us =
-    rw (append_assoc xs ys rs, unused_append xs ys, append_assoc (unused xs) (unused ys) us, append_assoc is js (tell_from rs us))
+    rw (append_assoc xs ys rs, map-append (λ _. false) xs ys, append_assoc (unused xs) (unused ys) us, append_assoc is js (tell_from rs us))
     (h (ys ++ rs) (unused ys ++ us) ∙ ap (λ t. is ++ t) (k rs us))
 
 tells_finish : Tells (Finish ∷ []) (leave ∷ [])
@@ -143,7 +140,7 @@ tells_wrap b n k f h m t rs us =
     rw (
       parent_is b (wrap n k f) f refl,
       append_assoc X (Start k (led b (inner f)) ∷ inner f) rs,
-      unused_append X (Start k (led b (inner f)) ∷ inner f),
+      map-append (λ _. false) X (Start k (led b (inner f)) ∷ inner f),
       append_assoc (unused X) (false ∷ unused (inner f)) us,
       m (Start k (led b (inner f)) ∷ (inner f ++ rs)) (false ∷ (unused (inner f) ++ us)),
       climb_led b (inner f) rs,

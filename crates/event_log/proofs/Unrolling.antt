@@ -4,11 +4,11 @@ use Rattle.std.proofs.Common.{◌≡◌, ℕ, suc, ◌+◌, ◌-◌, ◌<◌, �
 use Rattle.event_log.specs.Forest.{Node, Forest, wides, wide_node}
 use Rattle.event_log.specs.Forest.Node.{wrap}
 use Rattle.event_log.specs.Forest.Forest.{nil}
-use Rattle.event_log.specs.Program.{Env, Prog, Turn, Out, Held, size, size_node, grow, next, turned, spin, turns, on_node, wind, run, precede}
+use Rattle.event_log.specs.Program.{Env, Prog, Turn, Out, Held, size, size_node, turned, spin, turns, on_node, wind, run, precede}
 use Rattle.event_log.specs.Program.Prog.{give, ◌>>=◌, repeat}
 use Rattle.event_log.specs.Program.Wraps.{◌>-◌, around, many}
 use Rattle.event_log.specs.Program.Turn.{again, done}
-use Rattle.event_log.specs.Program.Out.{ok, no, never}
+use Rattle.event_log.specs.Program.Out.{ok}
 use Rattle.event_log.specs.Settling.{Settled}
 use Rattle.event_log.proofs.Fuel.{next_eq, spin_more, on_node_eq, wind_more}
 use Rattle.event_log.proofs.Spelling.{run_fine}
@@ -43,11 +43,11 @@ repeat_unroll {S = S} b s e c i l h =
 
 pub wind_stop : (m : ℕ) (t : Node → Bool) (f : Node → Out (Held ℕ)) (n : Node) → t n ≡ false → wind (suc m) t f n ≡ ok nil (record { held = n; answer = tt })
 unfolding wind
-wind_stop m t f n p = ap (λ (b : Bool). elim b as (λ _. Out (Held (Unit {0}))) [ true ↦ on_node (f n) (λ _. wind m t f) | false ↦ ok nil (record { held = n; answer = tt {0} }) ]) p
+wind_stop m t f n p = rw (wind, p) refl
 
 pub wind_go : (m : ℕ) (t : Node → Bool) (f : Node → Out (Held ℕ)) (n : Node) → t n ≡ true → wind (suc m) t f n ≡ on_node (f n) (λ _. wind m t f)
 unfolding wind
-wind_go m t f n p = ap (λ (b : Bool). elim b as (λ _. Out (Held (Unit {0}))) [ true ↦ on_node (f n) (λ _. wind m t f) | false ↦ ok nil (record { held = n; answer = tt {0} }) ]) p
+wind_go m t f n p = rw (wind, p) refl
 
 module _ (t : Env → ℕ → Bool) (b : Prog ℕ) (e : Env) (c i : ℕ) (n : Node) where
   -- where the test does not hold, nothing more precedes the node by this loop

@@ -28,7 +28,7 @@ use Rattle.event_log.proofs.Unrolling.{wind_go, wind_stop}
 use Rattle.event_log.proofs.Sizes.{length_flat_node}
 use Rattle.event_log.proofs.Due.{due_ok, due_no, completed_ok}
 use Rattle.event_log.proofs.Growth.{faultless_append, grown_then, records}
-use Rattle.event_log.proofs.Kit.{full_no, inside, opens, begun, ended, refuses, ends, gives, then, fails, answers, then_gives}
+use Rattle.event_log.proofs.Kit.{full_no, inside, opens, begun, ended, refuses, ends, gives, answers, then_gives}
 
 -- What precedes a node
 
@@ -68,7 +68,7 @@ unfolding precede on_node
 wraps_then {X} {show = show} {show'} {w} {k} {t = t} {u} {x} {r} f g b n h = go (f b n h)
   where
     go : Winds show w b n t (Ok x) → Winds show' (w >- k) b n u r
-    go (wound m e p) = winds_as (w >- k) (k (show x).1) n m (ap (λ o. on_node o (λ a. precede (k a) b.env (length b.recs) b.place)) e) (g b m p)
+    go (wound m e p) = winds_as (w >- k) (k (show x).1) n m (rw e refl) (g b m p)
 
 pub wraps_fail : {X Y A B : Type 0} {show : X → CompletedMarker × A} {show' : Y → CompletedMarker × B} {w : Wraps A} {k : A → Wraps B} {c : CompletedMarker} {s t : State} {e : Refusal}
     → Precedes show w c s t (Err e) → Precedes show' (w >- k) c s t (Err e)
@@ -76,7 +76,7 @@ unfolding precede on_node
 wraps_fail {show = show} {show'} {w} {k} {t = t} {e} f b n h = go (f b n h)
   where
     go : Winds show w b n t (Err e) → Winds show' (w >- k) b n t (Err e)
-    go (unwound rs v d g) = unwound rs v (ap (λ o. on_node o (λ a. precede (k a) b.env (length b.recs) b.place)) d) g
+    go (unwound rs v d g) = unwound rs v (rw d refl) g
 
 -- the exit of a `?`
 pub wraps_exit : {X Y A : Type 0} {show : X → CompletedMarker × A} {show' : Y → CompletedMarker × A} {w : Wraps A} {c : CompletedMarker} {s t : State} {e : Refusal}
@@ -92,13 +92,9 @@ pub wraps_exits : {X Y A B : Type 0} {show : X → CompletedMarker × A} {show' 
 wraps_exits {show' = show'} {k = k} f r p = wraps_exit {show = show'} (wraps_fail {show' = show'} {k = k} f) r p
 
 -- the marker alone
-wind_only : {w : Wraps ℕ} {b : State} {n : Node} {t : State} {r : Result CompletedMarker Refusal} → Winds by_kind w b n t r → Winds only (w >- λ _. end tt) b n t r
-unfolding precede on_node
-wind_only {b = b} (wound m e p) = wound m (ap (λ o. on_node o (λ _. precede (end tt) b.env (length b.recs) b.place)) e) p
-wind_only {b = b} (unwound rs v e g) = unwound rs v (ap (λ o. on_node o (λ _. precede (end tt) b.env (length b.recs) b.place)) e) g
-
 pub wraps_only : {w : Wraps ℕ} {c : CompletedMarker} {s t : State} {r : Result CompletedMarker Refusal} → Precedes by_kind w c s t r → Precedes only (w >- λ _. end tt) c s t r
-wraps_only f b n h = wind_only (f b n h)
+wraps_only {r = Ok d} f = wraps_then {show = by_kind} {show' = only} f (wraps_end only d)
+wraps_only {r = Err e} f = wraps_fail {show = by_kind} {show' = only} f
 
 -- A node that precedes another one
 
@@ -147,11 +143,13 @@ around_is body b n (started at lt g) =
     (ap (λ (c : ℕ). run body b.env (c + 1) (b.place + wide_node n)) (sym (length_after b n)) ∙ begun (run body) g)
 
 -- and where its body has answered
-wrapped_is : (k : ℕ) (b : State) (n : Node) {u : State} (f : Forest) → Grown (after b n) u (blank ∷ flats f) (wides f)
-    → wrapped b.env (length b.recs) b.place n (ok f k) ≡ completed_at u.env k (length u.recs) u.place (ok nil (record { held = wrap n k f; answer = k }))
+wrapped_is : (body : Prog ℕ) (b : State) (n : Node) {t u : State} {m : Marker} {k : ℕ} (f : Forest)
+    → Starts (after b n) t (Ok m) → from body t ≡ ok f k → Grown (after b n) u (blank ∷ flats f) (wides f)
+    → outcome (around body) b n ≡ completed_at u.env k (length u.recs) u.place (ok nil (record { held = wrap n k f; answer = k }))
 unfolding wrapped
-wrapped_is k b n f g =
-    ap (λ (c : ℕ). completed_at b.env k (c + 1 + size f) (b.place + wide_node n + wides f) (ok nil (record { held = wrap n k f; answer = k }))) (sym (length_after b n))
+wrapped_is body b n {k = k} f st e g =
+    around_is body b n st ∙ ap (wrapped b.env (length b.recs) b.place n) e
+    ∙ ap (λ (c : ℕ). completed_at b.env k (c + 1 + size f) (b.place + wide_node n + wides f) (ok nil (record { held = wrap n k f; answer = k }))) (sym (length_after b n))
     ∙ ended f (λ e c i. completed_at e k c i (ok nil (record { held = wrap n k f; answer = k }))) g
 
 -- what the program's body answered decides
@@ -165,12 +163,12 @@ finished : (body : Prog ℕ) (b : State) (n : Node) {t u v : State} {m : Marker}
 unfolding flat_node wide_node own kind_of
 finished body b n {k = k} f st e i (closed nz lt g at to kind) =
     wound (wrap n k f)
-    (around_is body b n st ∙ ap (wrapped b.env (length b.recs) b.place n) e ∙ wrapped_is k b n f i.grown ∙ completed_ok _ k _ _ _ nz lt
+    (wrapped_is body b n f st e i.grown ∙ completed_ok _ k _ _ _ nz lt
     ∙ ap (λ (j : ℕ). ok nil (record { held = wrap n k f; answer = j })) (sym kind))
     (record { grown = grown_then (since b n) g; start = omega (arith, at, records g, length-append (flats f) (Finish ∷ [])); end = to; kind = kind })
 finished body b n {k = k} f st e i (unclosed more z why g) =
     unwound _ _
-    (around_is body b n st ∙ ap (wrapped b.env (length b.recs) b.place n) e ∙ wrapped_is k b n f i.grown ∙ refuses _ z why)
+    (wrapped_is body b n f st e i.grown ∙ refuses _ z why)
     (grown_then (since b n) g)
 
 around_passes : (body : Prog ℕ) (b : State) (n : Node) {t u v : State} {m : Marker} {e : Refusal} {x : Result CompletedMarker Refusal} {rs : List Record} {w : ℕ}
@@ -287,7 +285,7 @@ many_off : (t : Env → ℕ → Bool) (body : Prog ℕ) {b : State} {n : Node} {
     → Pending b n c s → t s.env s.place ≡ true → s.place ≤ length s.env.kinds → Winds by_kind (around body) b n u (Err e) → Winds only (many t body) b n u (Err e)
 unfolding on_node
 many_off t body {b} {n} h e le (unwound rs v d g) =
-    unwound rs v (many_true t body h e le ∙ ap (λ o. on_node o (λ _. wind (turns_left b n) (tested t b) (outcome (around body) b))) d) g
+    unwound rs v (many_true t body h e le ∙ rw d refl) g
 
 pub many_fail : {t : Env → ℕ → Bool} {body : Prog ℕ} {c : CompletedMarker} {s u : State} {e : Refusal}
     → t s.env s.place ≡ true → s.place ≤ length s.env.kinds → Precedes by_kind (around body) c s u (Err e) → Precedes only (many t body) c s u (Err e)

@@ -1,6 +1,7 @@
 -- The first number that passes a test, as a loop finds it.
 use Rattle.std.proofs.Common.{◌≡◌, ℕ, zero, suc, ◌+◌, ◌-◌, ◌<◌, ◌≤◌, Bool, true, false, cond, ◌⊎◌, List, length, get_or, Some, None, Option, Result, sym, refl, ap, ◌∙◌, inl, inr, subst, ⊎_elim, add-zero, add-suc, add-one, arith}
-use Rattle.std.proofs.lemmas.Bool.{cases_lt}
+use Rattle.std.proofs.lemmas.Bool.{cases_lt, cond-true, cond-false}
+use Rattle.std.proofs.lemmas.Option.{none-some}
 use Rattle.std.proofs.lemmas.List.{get_or_default}
 use Rattle.refusals.specs.declared.Refusal.{Refusal}
 use Rattle.std.specs.Borrow.{Bor}
@@ -23,44 +24,40 @@ unfolding first_below
 none_yet p = refl
 
 pub none_more : (p : ℕ → Bool) (i : ℕ) → first_below p i ≡ None → p i ≡ false → first_below p (i + 1) ≡ None
-none_more p i h e = rw add-one (first_suc p i ∙ ap (next p i) h ∙ ap (λ (b : Bool). cond b (Some i) None) e)
+none_more p i h e = rw add-one (first_suc p i ∙ ap (next p i) h ∙ cond-false (p i) (Some i) None e)
 
 -- none where there is none at any of them
 none_of : (p : ℕ → Bool) (n : ℕ) → ((i : ℕ) → i < n → p i ≡ false) → first_below p n ≡ None
 none_of p zero h = none_yet p
-none_of p (suc n) h = first_suc p n ∙ ap (next p n) (none_of p n (λ i lt. h i (omega (arith, lt)))) ∙ ap (λ (b : Bool). cond b (Some n) None) (h n (omega arith))
+none_of p (suc n) h = first_suc p n ∙ ap (next p n) (none_of p n (λ i lt. h i (omega (arith, lt)))) ∙ cond-false (p n) (Some n) None (h n (omega arith))
 
 -- what holds of those below n, and of n, holds of those below the next one
 pub one_more : {P : ℕ → Type 0} {n : ℕ} → ((i : ℕ) → i < n → P i) → P n → (i : ℕ) → i < n + 1 → P i
 one_more {P} {n} h a i lt = ⊎_elim (h i) (λ ge. subst P (let e : n ≡ i = omega (arith, lt, ge) in e) a) (cases_lt i n)
 
 -- the one that was found is the first, however far one looks
-found_suc : (p : ℕ → Bool) (i k : ℕ) → first_below p i ≡ None → p i ≡ true → first_below p (suc i + k) ≡ Some i
-found_suc p i zero h e = rw (add-zero (suc i)) (first_suc p i ∙ ap (next p i) h ∙ ap (λ (b : Bool). cond b (Some i) None) e)
-found_suc p i (suc k) h e = rw (add-suc (suc i) k) (first_suc p (suc i + k) ∙ ap (next p (suc i + k)) (found_suc p i k h e))
-
 pub found : (p : ℕ → Bool) (i n : ℕ) → first_below p i ≡ None → p i ≡ true → i < n → first_below p n ≡ Some i
-found p i n h e lt = ap (first_below p) more ∙ found_suc p i (n - suc i) h e
-  where
-    more : n ≡ suc i + (n - suc i)
-    more = omega arith
+found p i zero h e lt = absurd (omega (arith, lt))
+found p i (suc n) h e lt =
+    first_suc p n ∙ ⊎_elim (λ l. ap (next p n) (found p i n h e l))
+    (λ ge. ap (λ m. next p m (first_below p m)) (let q : n ≡ i = omega (arith, lt, ge) in q) ∙ ap (next p i) h ∙ cond-true (p i) (Some i) None e)
+    (cases_lt i n)
+
+-- nothing is answered where the test does not hold
+pub cond_none : {A : Type 0} (b : Bool) (x : A) → cond b (Some x) None ≡ None → b ≡ false
+cond_none true x h = absurd (none-some x (sym h))
+cond_none false x h = refl
 
 -- where none was found, none passes
 none_next : (p : ℕ → Bool) (n : ℕ) (o : Option ℕ) → next p n o ≡ None → (o ≡ None) × (p n ≡ false)
-none_next p n None h = (refl, go (p n) h)
-  where
-    go : (b : Bool) → cond b (Some n) None ≡ None → b ≡ false
-    go true e = absurd (let z : ◌≡◌ {A = ℕ} 0 1 = cc in omega arith)
-    go false e = refl
-none_next p n (Some i) h = absurd (let z : ◌≡◌ {A = ℕ} 0 1 = cc in omega arith)
+none_next p n None h = (refl, cond_none (p n) n h)
+none_next p n (Some i) h = absurd (none-some i (sym h))
 
 pub none_below : (p : ℕ → Bool) (n i : ℕ) → first_below p n ≡ None → i < n → p i ≡ false
 none_below p zero i h lt = absurd (omega arith)
-none_below p (suc n) i h lt = go (cases_lt i n) (none_next p n (first_below p n) (sym (first_suc p n) ∙ h)) (none_below p n i)
-  where
-    go : (i < n) ⊎ (n ≤ i) → (first_below p n ≡ None) × (p n ≡ false) → (first_below p n ≡ None → i < n → p i ≡ false) → p i ≡ false
-    go (inl l) e r = r e.0 l
-    go (inr g) e r = ap p (let q : i ≡ n = omega arith in q) ∙ e.1
+none_below p (suc n) i h lt =
+    let e = none_next p n (first_below p n) (sym (first_suc p n) ∙ h) in
+    ⊎_elim (λ l. none_below p n i e.0 l) (λ ge. ap p (let q : i ≡ n = omega (arith, lt, ge) in q) ∙ e.1) (cases_lt i n)
 
 -- A check of each entry refuses the first one that is wrong, as a test of the places and the entries says.
 pub checked : {W R T : Type 0} {g : Shared W (ℕ × (Bor T × Unit {0})) Bool} {h : Shared R (ℕ × Unit {0}) Refusal} {column : List T} {wrong : W} {refusal : R}

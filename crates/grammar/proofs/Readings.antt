@@ -1,6 +1,6 @@
 -- A reading from call to call: that some list of calls has led to it.
 use Rattle.std.proofs.Common.{◌≡◌, ℕ, List, [], ◌∷◌, ◌++◌, map, length, take, None, Result, sym, refl, ap, ◌∙◌, take_at}
-use Rattle.std.proofs.lemmas.List.{length-replicate}
+use Rattle.std.proofs.lemmas.List.{length-replicate, map-append}
 use mathlib.Core.Logic.{∥∥₁_map}
 use Rattle.event_log.specs.declared.event.Record.{Record}
 use Rattle.event_log.specs.declared.parser.Parser.{Parser}
@@ -45,10 +45,6 @@ unfolding after
 after_more e [] m r = refl
 after_more e (n ∷ ms) m r = after_more e ms m (called e n r)
 
-map_more : (cs : List Call) (x : Call) → map program (cs ++ x ∷ []) ≡ map program cs ++ program x ∷ []
-map_more [] x = refl
-map_more (c ∷ cs) x = ap (λ ms. program c ∷ ms) (map_more cs x)
-
 -- what a parser holds, it is seen to hold
 holds_seen : {l m : Parser} {rs : List Record} {i : ℕ} → Holds l m rs i → seen m ≡ record { log = rs; place = i }
 holds_seen {l} {m} {rs} h = λ j. record { log = recs j; place = h.place j }
@@ -60,7 +56,7 @@ holds_seen {l} {m} {rs} h = λ j. record { log = recs j; place = h.place j }
 leads_more : {A : Type 0} (p : Prog A) (c : Call) → program c ≡ call p → (l m : Parser) (o : Out A) → run p (env l) (length (of l).recs) l.place ≡ o
     → env m ≡ env l → seen m ≡ kept (seen l) o → (cs : List Call) → Leads l cs → Leads m (cs ++ c ∷ [])
 leads_more p c runs l m o e same k cs h =
-    (λ j. after (same j) (map program (cs ++ c ∷ [])) begun) ∙ ap (λ ms. after (env l) ms begun) (map_more cs c)
+    (λ j. after (same j) (map program (cs ++ c ∷ [])) begun) ∙ ap (λ ms. after (env l) ms begun) (map-append program cs (c ∷ []))
     ∙ after_more (env l) (map program cs) (program c) begun ∙ ap (called (env l) (program c)) h ∙ ap (λ q. called (env l) q (seen l)) runs ∙ ap (kept (seen l)) e ∙ sym k
 
 pub reached_more : {A : Type 0} {p : Prog A} {l m : Parser} {x : Result Taken Refusal} (c : Call) → program c ≡ call p → Performs p l m x → Reached l → Reached m

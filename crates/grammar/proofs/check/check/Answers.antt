@@ -1,15 +1,13 @@
-use Rattle.std.proofs.Common.{refl}
 use Rattle.std.proofs.Common.{◌∙◌}
-use Rattle.grammar.specs.Verdict.{fault}
 use Rattle.grammar.proofs.Verdicts.{by_tokens, by_lengths, by_kinds, by_contextual, by_editions, broke}
 use Rattle.grammar.proofs.check.check.Goals as goal
 
 pub returns-then-input-gt-MAX_TOKENS : goal.returns-then-input-gt-MAX_TOKENS
-returns-then-input-gt-MAX_TOKENS c = by_tokens c.args.input c.args.records c.if-input-gt-MAX_TOKENS.true refl
+returns-then-input-gt-MAX_TOKENS c = by_tokens c.args.input c.args.records c.if-input-gt-MAX_TOKENS.true
 
 pub returns-then-not-lengths_fit : goal.returns-then-not-lengths_fit
 returns-then-not-lengths_fit c =
-    by_lengths c.args.input c.args.records c.if-input-gt-MAX_TOKENS.false c.if-not-lengths_fit.ensures refl
+    by_lengths c.args.input c.args.records c.if-input-gt-MAX_TOKENS.false c.if-not-lengths_fit.ensures
 
 pub returns-in_err-check_kinds : goal.returns-in_err-check_kinds
 returns-in_err-check_kinds c =
@@ -24,5 +22,6 @@ returns-in_err-check_contextual c =
 
 pub returns : goal.returns
 returns c =
-    by_editions c.args.input c.args.records c.if-input-gt-MAX_TOKENS.false c.if-not-lengths_fit.ensures
-    c.in_ok-check_kinds.ensures c.in_ok-check_contextual.ensures (fault c.check_editions.result) c.check_editions.ensures
+    c.check_editions.ensures
+    ∙ by_editions c.args.input c.args.records c.if-input-gt-MAX_TOKENS.false c.if-not-lengths_fit.ensures
+    c.in_ok-check_kinds.ensures c.in_ok-check_contextual.ensures

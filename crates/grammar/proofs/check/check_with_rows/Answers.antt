@@ -1,5 +1,4 @@
 use Rattle.std.proofs.Common.{◌∙◌}
-use Rattle.grammar.specs.Verdict.{fault}
 use Rattle.grammar.proofs.Verdicts.{by_row_count, by_columns, by_rows, broke}
 use Rattle.grammar.proofs.check.check_with_rows.Goals as goal
 
@@ -14,4 +13,4 @@ returns-in_err-check c =
 
 pub returns : goal.returns
 returns c =
-    by_rows c.args.input c.args.rows.now c.args.records c.in_ok-check_row_count.ensures c.in_ok-check.ensures (fault c.check_rows.result) c.check_rows.ensures
+    c.check_rows.ensures ∙ by_rows c.args.input c.args.rows.now c.args.records c.in_ok-check_row_count.ensures c.in_ok-check.ensures
