@@ -1,7 +1,6 @@
 -- Lawful answers: a node of some tokens, a fault alone, a run.
-use Rattle.std.proofs.Common.{◌≡◌, ℕ, ◌<◌, ◌≤◌, Bool, true, false, eqb, List, length, get_or, drop, Some, None, ap, ◌∙◌, inl, inr, add-zero, arith}
+use Rattle.std.proofs.Common.{◌≡◌, ℕ, ◌<◌, ◌≤◌, Bool, true, false, List, length, get_or, drop, Some, None, ap, ◌∙◌, inl, inr, add-zero, arith}
 use native.Mathlib.Nat.{sub-zero}
-use Rattle.std.proofs.lemmas.Bool.{eqb-true, eqb-false, cond_both}
 use Rattle.std.proofs.lemmas.List.{length-drop, get_or-drop, get_or_past, get_or_default}
 use Rattle.std.proofs.lemmas.Bool.Decides.{nat_tests}
 use Rattle.tokens.specs.declared.rows.Hook.{Hook}
@@ -38,10 +37,8 @@ module _ (ks : List ℕ) (h : Hook) where
   -- a run as a node
   pub tree_lawful : (stops : ℕ → Bool) (k : ℕ) → is_node k ≡ true → (run_length stops ks ≡ 0 → must_take h (get_or ks 0 EOF) ≡ false)
       → lawful_answer ks 0 h (tree k (run_of stops ks)) ≡ true
-  tree_lawful stops k node free =
-      cond_both (eqb (run_length stops ks) 0) bare_fault (record { tokens = run_length stops ks; kind = Some k; fault = (run_of stops ks).unclosed }) (λ a. lawful_answer ks 0 h a ≡ true)
-      (λ e. fault_lawful (free (eqb-true _ 0 e)))
-      (λ e. node_lawful _ k _ (let z : run_length stops ks ≡ 0 → ⊥ = eqb-false _ 0 e in omega arith) (run_within stops ks) node)
+  unfolding lawful_answer
+  tree_lawful stops k node free = grind (arith, nat_tests, run_within stops ks)
 
 -- nothing at all is no literal
 pub nothing_lawful : (ks : List ℕ) → must_take Literal (get_or ks 0 EOF) ≡ false → lawful_answer ks 0 Literal nothing ≡ true
