@@ -28,5 +28,10 @@ plain_lawful_ahead Meta ks = tree_lawful ks Meta (stops_at Closer) TOKEN_TREE_ME
 plain_lawful_ahead Pattern ks = grind (arith, nat_tests, get_or_past ks 0 EOF)
 plain_lawful_ahead PatternSingle ks = grind (arith, nat_tests, get_or_past ks 0 EOF)
 
+try_ahead : (h : Hook) (ks : List ℕ) → lawful_answer ks 0 h (plain_ahead h ks) ≡ true
+unfolding lawful_answer
+try_ahead h [] = grind (arith, nat_tests, run_within (stops_at Closer) [])
+try_ahead h (k ∷ ks) = grind (arith, nat_tests, run_within (stops_at Closer) (k ∷ ks))
+
 pub plain_lawful : (h : Hook) (c : Columns) (p : ℕ) → lawful_answer c.kinds p h (plain_answer h c p) ≡ true
 plain_lawful h c p = lawful_ahead c.kinds p h _ (plain_lawful_ahead h (drop p c.kinds))

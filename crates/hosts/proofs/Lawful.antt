@@ -24,31 +24,11 @@ stop_free : (h : Hook) (k : ℕ) → stops_at Mark k ≡ true → must_take h k 
 stop_free h k e = grind (arith, nat_tests)
 
 module _ (ks : List ℕ) (h : Hook) where
-  -- a node of some tokens, fault or not
-  pub node_lawful : (n k : ℕ) (f : Bool) → 0 < n → n ≤ length ks → is_node k ≡ true → lawful_answer ks 0 h (record { tokens = n; kind = Some k; fault = f }) ≡ true
-  unfolding lawful_answer
-  node_lawful n k f some le node = grind (arith, nat_tests)
-
-  -- a fault alone, where no token must be taken
-  pub fault_lawful : must_take h (get_or ks 0 EOF) ≡ false → lawful_answer ks 0 h bare_fault ≡ true
-  unfolding lawful_answer
-  fault_lawful e = grind (arith, nat_tests)
-
   -- a run as a node
   pub tree_lawful : (stops : ℕ → Bool) (k : ℕ) → is_node k ≡ true → (run_length stops ks ≡ 0 → must_take h (get_or ks 0 EOF) ≡ false)
       → lawful_answer ks 0 h (tree k (run_of stops ks)) ≡ true
   unfolding lawful_answer
   tree_lawful stops k node free = grind (arith, nat_tests, run_within stops ks)
-
--- nothing at all is no literal
-pub nothing_lawful : (ks : List ℕ) → must_take Literal (get_or ks 0 EOF) ≡ false → lawful_answer ks 0 Literal nothing ≡ true
-unfolding lawful_answer
-nothing_lawful ks e = grind (arith, nat_tests)
-
--- the contents of a block are any tokens, of no kind
-pub contents_lawful : (ks : List ℕ) (n : ℕ) → n ≤ length ks → lawful_answer ks 0 ExprBlockContents (record { tokens = n; kind = None; fault = false }) ≡ true
-unfolding lawful_answer
-contents_lawful ks n le = grind (arith, nat_tests)
 
 -- where a run that also stops at marks is empty, no token must be taken
 pub empty_free : (ks : List ℕ) (h : Hook) → run_length (stops_at Mark) ks ≡ 0 → must_take h (get_or ks 0 EOF) ≡ false
