@@ -2,6 +2,8 @@
 use Rattle.std.proofs.Common.{◌≡◌, ℕ, ◌+◌, ◌-◌, ◌<◌, ◌≤◌, Bool, cond, List, [], ◌∷◌, ◌++◌, length, IsErrAnd, Ok, Err, Result, sym, refl, ap, ◌∙◌, append_assoc, append-nil, arith, length-append}
 use Rattle.std.proofs.lemmas.Bool.{le-leb, lt-leb}
 use Rattle.std.proofs.lemmas.Bool.Decides.{nat_tests}
+use Rattle.std.proofs.lemmas.Grind.{common_steps}
+use Rattle.std.proofs.lemmas.List.Recursion.{is_sum_by}
 use Rattle.event_log.specs.declared.item.Item.{Item}
 use Rattle.sinks.specs.declared.sink.Full.{Full}
 use Rattle.sinks.specs.Sink.{Heard, Takes, fitting, sizes, Tells}
@@ -11,8 +13,7 @@ use Rattle.sinks.specs.Sink.Tells.{told, full}
 module _ (size : Item → ℕ) where
   sizes_append : (xs ys : List Item) → sizes size (xs ++ ys) ≡ sizes size xs + sizes size ys
   unfolding sizes
-  sizes_append [] ys = omega arith
-  sizes_append (x ∷ xs) ys = omega (arith, sizes_append xs ys)
+  sizes_append xs ys = grind (arith, common_steps, is_sum_by (sizes size) size refl (λ _ _. refl))
 
   -- what fits is a front
   fitting_shorter : (xs : List Item) (n : ℕ) → length (fitting size n xs) ≤ length xs
