@@ -27,9 +27,7 @@ third None None (Some r) = refl
 -- and where all three accept, so does the second
 accepts : (a : Option Refusal) (d : Bool) (s : Refusal) (v : Option Refusal) → first_of (a ∷ (when d s ∷ (v ∷ []))) ≡ None → d ≡ false
 unfolding first_of
-accepts (Some r) d s v h = absurd (none-some r (sym h))
-accepts None true s v h = absurd (none-some s (sym h))
-accepts None false s v h = refl
+accepts a d s v h = grind (arith, nat_tests)
 
 module _ (i : Input) (rows : ℕ) where
   -- the number of rows decides first, and then the columns
