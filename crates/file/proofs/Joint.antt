@@ -1,7 +1,7 @@
 -- Where the joint bit of a token stands.
-use Rattle.std.proofs.Common.{◌≡◌, ℕ, ◌+◌, ◌-◌, ◌*◌, ◌/◌, ◌%◌, ◌^◌, min, cond, ltb, List, get_or, IfOk, Ok, Err, Result, sym, ap, ◌∙◌, inl, inr, arith}
+use Rattle.std.proofs.Common.{◌≡◌, ℕ, ◌+◌, ◌-◌, ◌*◌, ◌/◌, ◌%◌, ◌^◌, min, cond, ltb, List, get_or, IfOk, Ok, Err, Result, refl, ap, ◌∙◌, inl, inr, arith}
 use Rattle.refusals.specs.declared.Refusal.{Refusal}
-use Rattle.std.proofs.lemmas.Bool.{cases_lt, lt-ltb, le-ltb}
+use Rattle.std.proofs.lemmas.Bool.{cases_lt, cond_below, cond_above}
 use Rattle.file.specs.TokenFile.{written, joint_of, joint_word, words_for, JointBits, Columns, Reads}
 use Rattle.file.proofs.Fronts.{written_at}
 use Rattle.file.proofs.Numbers.{bit_small, word_bit, word_past}
@@ -15,10 +15,10 @@ joint_law bytes column n i h =
       | inl l ↦
           word_bit (λ b. joint_of bytes (64 * (i / 64) + b)) (λ b. bit_small _ _) (min (n - 64 * (i / 64)) 64) (i % 64) (omega arith)
           ∙ ap (joint_of bytes) (let e : 64 * (i / 64) + i % 64 ≡ i = omega arith in e)
-          ∙ sym (ap (λ t. cond t (joint_of bytes i) 0) (lt-ltb i n l))
+          ∙ cond_below i n _ _ l
       | inr l ↦
           word_past (λ b. joint_of bytes (64 * (i / 64) + b)) (λ b. bit_small _ _) (min (n - 64 * (i / 64)) 64) (i % 64) (omega arith)
-          ∙ sym (ap (λ t. cond t (joint_of bytes i) 0) (le-ltb i n l))
+          ∙ cond_above i n (joint_of bytes i) 0 0 l refl
     ]
 
 pub joint_bits : (bytes : List ℕ) (before after : Columns) (r : Result ℕ Refusal) → Reads bytes before after r → IfOk r (λ n. JointBits bytes n after.joint)

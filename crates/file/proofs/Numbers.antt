@@ -1,7 +1,10 @@
 -- How large the numbers of so many bits are, and which bits they have.
-use Rattle.std.proofs.Common.{◌≡◌, ℕ, zero, suc, ◌+◌, ◌-◌, ◌*◌, ◌/◌, ◌%◌, ◌^◌, ◌<◌, ◌≤◌, List, sym, ap, ◌∙◌, mul-le-mul_right, mod-eq_of_lt, mul_assoc, add_comm, suc-add, zero-add, add-one, one-add, arith, pow_mono}
-use native.Mathlib.Nat.{two-pow-succ, div-eq_of_lt, add-mul-mod_self_right}
-use Rattle.std.proofs.lemmas.Nat.{mod_below, shl_whole, shr_high, field_of, pow-add}
+use Rattle.std.proofs.Common.{◌≡◌, ℕ, zero, suc, ◌+◌, ◌-◌, ◌*◌, ◌/◌, ◌%◌, ◌^◌, ◌<◌, ◌≤◌, List, ap, ◌∙◌, mul-le-mul_right, mod-eq_of_lt, add_comm, add-one, arith, inl, inr, pow_mono}
+use native.Mathlib.Nat.{two-pow-succ}
+use Rattle.std.proofs.lemmas.Nat.{mod_below, shl_whole}
+use Rattle.std.specs.Int.{bit_at as bit}
+use Rattle.std.proofs.lemmas.Nat.Bits.{bit_at_cat_low, bit_at_cat_high, bit_at_lowest, bit_at_above}
+use Rattle.std.proofs.lemmas.Bool.{cases_lt}
 use Rattle.file.specs.TokenFile.{bit_at, number_at, word_of}
 
 pub bit_small : (bytes : List ℕ) (n : ℕ) → bit_at bytes n < 2
@@ -42,29 +45,19 @@ module _ (f : ℕ → ℕ) (bits : (i : ℕ) → f i < 2) where
   unfolding word_of
   word_more n v h e = rw (add-one n, e, shl_whole (f n) 1 n 64 (bits n) (omega arith))
 
-  -- its lowest bits are the number of those alone
-  word_front : (d n : ℕ) → word_of f (d + n) % 2 ^ n ≡ word_of f n
-  unfolding word_of
-  word_front zero n = rw (zero-add n) (mod-eq_of_lt (word_small n))
-  word_front (suc d) n =
-      ap (λ x. word_of f x % 2 ^ n) (suc-add d n)
-      ∙ ap (λ x. (word_of f (d + n) + f (d + n) * x) % 2 ^ n) (pow-add 2 d n)
-      ∙ ap (λ x. (word_of f (d + n) + x) % 2 ^ n) (sym (mul_assoc (f (d + n)) (2 ^ d) (2 ^ n)))
-      ∙ add-mul-mod_self_right (word_of f (d + n)) (f (d + n) * 2 ^ d) (2 ^ n)
-      ∙ word_front d n
-
   -- bit b of it
   pub word_bit : (n b : ℕ) → b < n → word_of f n / 2 ^ b % 2 ≡ f b
   unfolding word_of
-  word_bit n b h =
-      let e : n ≡ (n - (1 + b)) + (1 + b) = omega arith in
-      sym (field_of (word_of f n) 1 b)
-      ∙ ap (λ x. word_of f x % 2 ^ (1 + b) / 2 ^ b) e
-      ∙ ap (λ x. x / 2 ^ b) (word_front (n - (1 + b)) (1 + b))
-      ∙ ap (λ x. word_of f x / 2 ^ b) (one-add b)
-      ∙ ap (λ x. x / 2 ^ b) (add_comm (word_of f b) (f b * 2 ^ b))
-      ∙ shr_high (f b) b (word_of f b) (word_small b)
+  word_bit zero b h = absurd (omega arith)
+  word_bit (suc n) b h = elim (cases_lt b n) [
+    | inl lt ↦ ap (λ w. w / 2 ^ b % 2) (add_comm (word_of f n) (f n * 2 ^ n)) ∙ bit_at_cat_low (f n) n (word_of f n) b lt ∙ word_bit n b lt
+    | inr ge ↦
+        let z : b - n ≡ 0 = omega arith in
+        let e : n ≡ b = omega arith in
+        ap (λ w. w / 2 ^ b % 2) (add_comm (word_of f n) (f n * 2 ^ n)) ∙ bit_at_cat_high (f n) n (word_of f n) b (word_small n) ge
+        ∙ ap (bit (f n)) z ∙ bit_at_lowest (f n) ∙ mod-eq_of_lt (bits n) ∙ ap f e
+  ]
 
   -- and past its last
   pub word_past : (n b : ℕ) → n ≤ b → word_of f n / 2 ^ b % 2 ≡ 0
-  word_past n b h = ap (λ x. x % 2) (div-eq_of_lt (let s = word_small n in let p = pow_mono {i = n} {j = b} h in omega arith))
+  word_past n b h = bit_at_above (word_of f n) n b (word_small n) h

@@ -1,10 +1,11 @@
 -- Filling rows: why it is refused, and what the rows hold as the loop goes on.
 use Rattle.std.proofs.Common.{◌≡◌, ℕ, ◌<◌, Bool, true, false, List, [], ◌∷◌, length, get_or, IsErrAnd, Some, None, Ok, Err, Option, Result, sym, refl, ap, ◌∙◌, arith}
-use Rattle.std.proofs.lemmas.Bool.{eqb-true, not-false, and_from}
+use Rattle.std.proofs.lemmas.Bool.{eqb-true, not-false}
 use Rattle.std.proofs.lemmas.Option.{none-some}
 use Rattle.std.proofs.lemmas.List.FromFn.{fill_by_all}
 use Rattle.refusals.specs.declared.Refusal.{Refusal}
 use Rattle.tokens.specs.declared.input.Input.{Input}
+use Rattle.std.proofs.lemmas.Bool.Decides.{nat_tests}
 use Rattle.tokens.specs.declared.rows.Hook.{Hook}
 use Rattle.tokens.specs.declared.rows.Hook.TheVariants.{Expr, BlockExpr, Literal, ExprBlockContents, Meta, Pattern, PatternSingle}
 use Rattle.tokens.specs.declared.rows.Answer.{Answer}
@@ -26,9 +27,7 @@ third None None (Some r) = refl
 -- and where all three accept, so does the second
 accepts : (a : Option Refusal) (d : Bool) (s : Refusal) (v : Option Refusal) → first_of (a ∷ (when d s ∷ (v ∷ []))) ≡ None → d ≡ false
 unfolding first_of
-accepts (Some r) d s v h = absurd (none-some r (sym h))
-accepts None true s v h = absurd (none-some s (sym h))
-accepts None false s v h = refl
+accepts a d s v h = grind (arith, nat_tests)
 
 module _ (i : Input) (rows : ℕ) where
   -- the number of rows decides first, and then the columns
@@ -44,9 +43,7 @@ module _ (i : Input) (rows : ℕ) where
 
 -- a row of lawful answers
 pub row_lawful : (ks : List ℕ) (p : ℕ) (r : Row) → ((h : Hook) → lawful_answer ks p h (answer_of r h) ≡ true) → lawful_row ks p r ≡ true
-row_lawful ks p r f =
-    and_from _ _ (f Expr) (and_from _ _ (f BlockExpr) (and_from _ _ (f Literal) (and_from _ _ (f ExprBlockContents)
-    (and_from _ _ (f Meta) (and_from _ _ (f Pattern) (and_from _ _ (f PatternSingle) refl))))))
+row_lawful ks p r f = grind (arith, nat_tests, f Expr, f BlockExpr, f Literal, f ExprBlockContents, f Meta, f Pattern, f PatternSingle)
 
 module _ (m : Hook → Columns → ℕ → Answer) (i : Input) where
   -- the rows before a place hold the host's answers, which are lawful

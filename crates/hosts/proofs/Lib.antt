@@ -1,7 +1,5 @@
 -- bracket runs
 pub mod Runs
--- lawful answers
-pub mod Lawful
 -- the hosts are lawful
 pub mod HostLaws
 -- filling rows

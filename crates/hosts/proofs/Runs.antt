@@ -6,14 +6,6 @@ use Rattle.grammar.specs.Verdict.{first_below}
 use Rattle.grammar.proofs.Firsts.{none_yet, none_more, found}
 use Rattle.hosts.specs.Runs.{depth_behind, depth, ends_before, run_length, run_of}
 
-pub depth_none : (ks : List ℕ) → depth ks 0 ≡ 0
-unfolding depth
-depth_none ks = refl
-
-pub depth_more : (ks : List ℕ) (n : ℕ) → depth ks (n + 1) ≡ depth_behind (get_or ks n 0) (depth ks n)
-unfolding depth
-depth_more ks n = rw (add-one n) refl
-
 -- what the first number below n that passes a test is, if there is one
 abbrev FirstIs : (ℕ → Bool) → ℕ → Option ℕ → Type 0
 FirstIs p n None = Unit {0}
@@ -44,7 +36,8 @@ module _ (stops : ℕ → Bool) (ks : List ℕ) where
     pub low : d ≤ i
 
   pub goes_none : Goes_on 0 0
-  goes_none = record { none = none_yet (ends_before stops ks); deep = sym (depth_none ks); low = omega arith }
+  unfolding depth
+  goes_none = record { none = none_yet (ends_before stops ks); deep = refl; low = omega arith }
 
   -- it goes on inside a bracket, and at what it does not stop at
 
@@ -55,9 +48,10 @@ module _ (stops : ℕ → Bool) (ks : List ℕ) where
   unstopped i e = and_right (eqb (depth ks i) 0) _ e
 
   pub goes_more : {i d e : ℕ} → Goes_on i d → ends_before stops ks i ≡ false → e ≡ depth_behind (get_or ks i 0) d → Goes_on (i + 1) e
+  unfolding depth
   goes_more {i} {d} {e} g h p = record {
     none = none_more (ends_before stops ks) i g.none h;
-    deep = p ∙ ap (depth_behind (get_or ks i 0)) g.deep ∙ sym (depth_more ks i);
+    deep = rw (add-one i) (p ∙ ap (depth_behind (get_or ks i 0)) g.deep);
     low = let l : d ≤ i = g.low in omega (arith, p, one_deeper (get_or ks i 0) d);
   }
 

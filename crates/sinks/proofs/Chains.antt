@@ -1,12 +1,12 @@
 -- Chains of forward parents: where they lead, and which starts they use.
-use Rattle.std.proofs.Common.{◌≡◌, ℕ, zero, suc, ◌+◌, ◌-◌, ◌<◌, ◌≤◌, Bool, true, false, cond, ◌⊎◌, List, [], ◌∷◌, ◌++◌, length, take, drop, set, Some, None, Ok, Err, Option, Result, IsErrAnd, sym, refl, ap, ◌∙◌, subst, inl, inr, append_assoc, append-nil, arith, length-drop, take-append-drop, get_or-drop, drop-cons, drop-drop, take-add}
+use Rattle.std.proofs.Common.{◌≡◌, ℕ, zero, suc, ◌+◌, ◌-◌, ◌<◌, ◌≤◌, Bool, true, false, cond, List, [], ◌∷◌, ◌++◌, length, take, drop, set, Some, None, Ok, Err, Option, Result, IsErrAnd, sym, refl, ap, ◌∙◌, subst, append_assoc, append-nil, arith, length-drop, take-append-drop, get_or-drop, drop-cons, drop-drop, take-add}
 use native.Mathlib.Nat.{suc_inj}
 use Rattle.std.specs.Prelude.{IsSome}
 use Rattle.std.specs.Option.{option_map}
 use Rattle.std.proofs.lemmas.List.{get_or_past}
-use Rattle.std.proofs.lemmas.Bool.{both_ways, cases_lt, lt-ltb}
+use Rattle.std.proofs.lemmas.Bool.{lt-ltb}
 use Rattle.event_log.specs.declared.event.Record.{Record}
-use Rattle.event_log.specs.declared.event.Record.TheVariants.{Start, Finish, Token, Error}
+use Rattle.event_log.specs.declared.event.Record.TheVariants.{Start, Finish}
 use Rattle.event_log.specs.declared.item.Item.{Item}
 use Rattle.event_log.specs.declared.item.Item.TheVariants.{Enter as enter}
 use Rattle.event_log.specs.Tell.{climb, use_up, enters, enter_unless_0}
@@ -21,35 +21,22 @@ use Rattle.sinks.proofs.ByIndex.{marked_from, kinds_from, kinds_step, marks_step
 climb_none : (rs : List Record) (n : ℕ) → is_start (at rs n) ≡ false → climb (Some n) rs ≡ []
 unfolding climb
 climb_none [] n h = refl
-climb_none (Start k fp ∷ rs) zero h = absurd (both_ways true h refl)
-climb_none (Finish ∷ rs) zero h = refl
-climb_none (Token k w ∷ rs) zero h = refl
-climb_none (Error m k ∷ rs) zero h = refl
+climb_none (r ∷ rs) zero h = grind arith
 climb_none (r ∷ rs) (suc n) h = climb_none rs n h
 
 use_up_none : (rs : List Record) (n : ℕ) (us : List Bool) → length us ≡ length rs → is_start (at rs n) ≡ false → use_up (Some n) rs us ≡ us
 unfolding use_up
 use_up_none [] n us l h = refl
-use_up_none (Start k fp ∷ rs) zero us l h = absurd (both_ways true h refl)
-use_up_none (Finish ∷ rs) zero us l h = refl
-use_up_none (Token k w ∷ rs) zero us l h = refl
-use_up_none (Error m k ∷ rs) zero us l h = refl
+use_up_none (r ∷ rs) zero us l h = grind arith
 use_up_none (r ∷ rs) (suc n) [] l h = absurd (omega arith)
 use_up_none (r ∷ rs) (suc n) (u ∷ us) l h = ap (λ (vs : List Bool). u ∷ vs) (use_up_none rs n us (suc_inj l) h)
 
 -- a start lies inside
 start_within : (rs : List Record) (i : ℕ) → is_start (at rs i) ≡ true → i < length rs
-start_within rs i h = go (cases_lt i (length rs))
-  where
-    go : (i < length rs) ⊎ (length rs ≤ i) → i < length rs
-    go (inl lt) = lt
-    go (inr le) = absurd (both_ways (is_start (at rs i)) (ap is_start (get_or_past rs i Finish le)) h)
+start_within rs i h = grind (arith, get_or_past rs i Finish)
 
 pub start_is : (r : Record) → is_start r ≡ true → r ≡ Start (kind_of r) (forward_of r)
-start_is (Start k fp) h = refl
-start_is Finish h = absurd (both_ways false refl h)
-start_is (Token k w) h = absurd (both_ways false refl h)
-start_is (Error m k) h = absurd (both_ways false refl h)
+start_is r h = grind arith
 
 -- ---- where a start is
 

@@ -3,6 +3,7 @@
 use Rattle.std.proofs.Common.{◌≡◌, ℕ, ◌+◌, ◌≤◌, true, false, List, [], ◌∷◌, map, length, is_some, Some, None, Option, Result, refl, ap, subst, arith}
 use mathlib.Core.Bool.{Bool-set}
 use mathlib.Core.Logic.{∥∥₁_elim}
+use mathlib.Core.HLevel.{×_prop}
 use Prim.{IsProp}
 use native.Mathlib.Nat.{ℕ_set}
 use Rattle.std.proofs.lemmas.Bool.{both_ways}
@@ -30,18 +31,15 @@ use Rattle.sinks.specs.Walk.Walks.{walked, no_marks}
 abbrev Facts : Env → ℕ → List Item → Type 0
 Facts e place items = Spelled e 0 items × ((width items ≡ place) × (is_some (match 0 [] items) ≡ true))
 
-both_prop : {A B : Type 0} → IsProp A → IsProp B → IsProp (A × B)
-both_prop p q u v = λ j. (p u.0 v.0 j, q u.1 v.1 j)
-
 spelled_prop : (e : Env) (is : List Item) (i : ℕ) → IsProp (Spelled e i is)
 spelled_prop e [] i = λ u v. refl
 spelled_prop e (Enter k ∷ is) i = spelled_prop e is i
 spelled_prop e (Leave ∷ is) i = spelled_prop e is i
-spelled_prop e (Token k w ∷ is) i = both_prop (Bool-set _ _) (spelled_prop e is (i + w))
+spelled_prop e (Token k w ∷ is) i = ×_prop (Bool-set _ _) (spelled_prop e is (i + w))
 spelled_prop e (Error n k ∷ is) i = spelled_prop e is i
 
 facts_prop : (e : Env) (place : ℕ) (items : List Item) → IsProp (Facts e place items)
-facts_prop e place items = both_prop (spelled_prop e items 0) (both_prop (ℕ_set _ _) (Bool-set _ _))
+facts_prop e place items = ×_prop (spelled_prop e items 0) (×_prop (ℕ_set _ _) (Bool-set _ _))
 
 led_facts : (l : Parser) (cs : List Call) → Leads l cs → Facts (env l) l.place (tell (of l).recs)
 led_facts l cs h =

@@ -1,6 +1,9 @@
 -- Items that a sink is told, one after the other.
-use Rattle.std.proofs.Common.{◌≡◌, ℕ, suc, ◌+◌, ◌-◌, ◌<◌, ◌≤◌, Bool, true, false, cond, leb, List, [], ◌∷◌, ◌++◌, length, IsErrAnd, Ok, Err, Result, sym, refl, ap, ◌∙◌, append_assoc, append-nil, arith, length-append}
+use Rattle.std.proofs.Common.{◌≡◌, ℕ, ◌+◌, ◌-◌, ◌<◌, ◌≤◌, Bool, cond, List, [], ◌∷◌, ◌++◌, length, IsErrAnd, Ok, Err, Result, sym, refl, ap, ◌∙◌, append_assoc, append-nil, arith, length-append}
 use Rattle.std.proofs.lemmas.Bool.{le-leb, lt-leb}
+use Rattle.std.proofs.lemmas.Bool.Decides.{nat_tests}
+use Rattle.std.proofs.lemmas.Grind.{common_steps}
+use Rattle.std.proofs.lemmas.List.Recursion.{is_sum_by}
 use Rattle.event_log.specs.declared.item.Item.{Item}
 use Rattle.sinks.specs.declared.sink.Full.{Full}
 use Rattle.sinks.specs.Sink.{Heard, Takes, fitting, sizes, Tells}
@@ -10,42 +13,25 @@ use Rattle.sinks.specs.Sink.Tells.{told, full}
 module _ (size : Item → ℕ) where
   sizes_append : (xs ys : List Item) → sizes size (xs ++ ys) ≡ sizes size xs + sizes size ys
   unfolding sizes
-  sizes_append [] ys = omega arith
-  sizes_append (x ∷ xs) ys = omega (arith, sizes_append xs ys)
+  sizes_append xs ys = grind (arith, common_steps, is_sum_by (sizes size) size refl (λ _ _. refl))
 
   -- what fits is a front
   fitting_shorter : (xs : List Item) (n : ℕ) → length (fitting size n xs) ≤ length xs
   unfolding fitting
   fitting_shorter [] n = omega arith
-  fitting_shorter (x ∷ xs) n = go (leb (size x) n) (fitting_shorter xs (n - size x))
-    where
-      go : (b : Bool) → length (fitting size (n - size x) xs) ≤ length xs → length (cond b (x ∷ fitting size (n - size x) xs) []) ≤ suc (length xs)
-      go true h = omega arith
-      go false h = omega arith
+  fitting_shorter (x ∷ xs) n = grind (arith, nat_tests, fitting_shorter xs (n - size x))
 
   -- All of these fit, and then as many of the others as fit into the room that is left.
   fitting_on : (xs ys : List Item) (n : ℕ) → length xs ≤ length (fitting size n xs) → fitting size n (xs ++ ys) ≡ xs ++ fitting size (n - sizes size xs) ys
   unfolding fitting sizes
   fitting_on [] ys n h = ap (λ (k : ℕ). fitting size k ys) (omega arith)
-  fitting_on (x ∷ xs) ys n h = go (leb (size x) n) h (fitting_on xs ys (n - size x))
-    where
-      go : (b : Bool) → suc (length xs) ≤ length (cond b (x ∷ fitting size (n - size x) xs) [])
-          → (length xs ≤ length (fitting size (n - size x) xs) → fitting size (n - size x) (xs ++ ys) ≡ xs ++ fitting size (n - size x - sizes size xs) ys)
-          → cond b (x ∷ fitting size (n - size x) (xs ++ ys)) [] ≡ (x ∷ xs) ++ fitting size (n - (size x + sizes size xs)) ys
-      go true k r = ap (λ (zs : List Item). x ∷ zs) (r (omega arith) ∙ ap (λ (m : ℕ). xs ++ fitting size m ys) (omega arith))
-      go false k r = absurd (omega arith)
+  fitting_on (x ∷ xs) ys n h = grind (arith, nat_tests, fitting_on xs ys (n - size x))
 
   -- Not all of these fit, whatever comes after them.
   fitting_stops : (xs ys : List Item) (n : ℕ) → length (fitting size n xs) < length xs → fitting size n (xs ++ ys) ≡ fitting size n xs
   unfolding fitting
   fitting_stops [] ys n h = absurd (omega arith)
-  fitting_stops (x ∷ xs) ys n h = go (leb (size x) n) h (fitting_stops xs ys (n - size x))
-    where
-      go : (b : Bool) → length (cond b (x ∷ fitting size (n - size x) xs) []) < suc (length xs)
-          → (length (fitting size (n - size x) xs) < length xs → fitting size (n - size x) (xs ++ ys) ≡ fitting size (n - size x) xs)
-          → cond b (x ∷ fitting size (n - size x) (xs ++ ys)) [] ≡ cond b (x ∷ fitting size (n - size x) xs) []
-      go true k r = ap (λ (zs : List Item). x ∷ zs) (r (omega arith))
-      go false k r = refl
+  fitting_stops (x ∷ xs) ys n h = grind (arith, nat_tests, fitting_stops xs ys (n - size x))
 
 pub tells_none : {size : Item → ℕ} {s : Heard} → Tells size [] s s (Ok tt)
 unfolding fitting sizes

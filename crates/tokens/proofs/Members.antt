@@ -1,6 +1,5 @@
 -- Which kinds words have, after each way to make them.
-use Rattle.std.proofs.Common.{◌≡◌, ℕ, zero, suc, ◌+◌, ◌/◌, ◌%◌, ◌^◌, ◌<◌, ◌≤◌, Bool, false, ◌&&◌, ◌||◌, eqb, leb, List, [], ◌∷◌, ◌++◌, length, get_or, take, set, replicate, sym, refl, ap, ◌∙◌, ap₂, inl, inr, arith, lit<, length-set}
-use mathlib.Core.Path.{subst⁻¹}
+use Rattle.std.proofs.Common.{◌≡◌, ℕ, zero, suc, ◌+◌, ◌/◌, ◌%◌, ◌^◌, ◌<◌, ◌≤◌, false, ◌&&◌, ◌||◌, eqb, leb, List, [], ◌∷◌, ◌++◌, length, get_or, take, replicate, sym, refl, ap, ◌∙◌, ap₂, inl, inr, arith, lit<, length-set}
 use mathlib.Core.Bool.{or_comm}
 use lib.Bits.{bit_or, or_lt}
 use lib.Pow.{pow-lt}
@@ -25,14 +24,9 @@ in_added x words h k =
     let v = bit_or (get_or words (x / 64) 0) (2 ^ (x % 64)) in
     elim (cases_eq (x / 64) (k / 64)) [
       | inl e ↦
-          ap (λ (n : ℕ). bit (get_or (added x words) n 0) (k % 64)) (sym e)
-          ∙ ap (λ (w : ℕ). bit w (k % 64)) (get_or-set_same words (x / 64) v 0 h)
-          ∙ bit_or_lem (get_or words (x / 64) 0) (2 ^ (x % 64)) (k % 64)
-          ∙ or_comm (bit (get_or words (x / 64) 0) (k % 64)) (bit (2 ^ (x % 64)) (k % 64))
-          ∙ ap₂ ◌||◌ (bit_pow (x % 64) (k % 64) ∙ same_word x k e) (ap (λ (n : ℕ). bit (get_or words n 0) (k % 64)) e)
-      | inr d ↦
-          ap (λ (w : ℕ). bit w (k % 64)) (get_or-set_other words (x / 64) (k / 64) v 0 (λ e. d (sym e)))
-          ∙ ap (λ (b : Bool). b || in_words words k) (sym (ne_eqb x k (λ s. d (ap (λ (n : ℕ). n / 64) s))))
+          rw (← e, get_or-set_same words (x / 64) v 0 h, bit_or_lem (get_or words (x / 64) 0) (2 ^ (x % 64)) (k % 64), bit_pow (x % 64) (k % 64), same_word x k e)
+          (or_comm (bit (get_or words (x / 64) 0) (k % 64)) (eqb x k))
+      | inr d ↦ rw (get_or-set_other words (x / 64) (k / 64) v 0 (λ e. d (sym e)), ne_eqb x k (λ s. d (ap (λ (n : ℕ). n / 64) s))) refl
     ]
 
 no_word : (i : ℕ) → get_or {A = ℕ} (0 ∷ 0 ∷ 0 ∷ []) i 0 ≡ 0
@@ -59,10 +53,9 @@ only_added x words three h only =
     let v = bit_or (get_or words (x / 64) 0) (2 ^ (x % 64)) in
     elim (cases_eq (x / 64) 2) [
       | inl e ↦
-          subst⁻¹ (λ (n : ℕ). get_or (set words n (bit_or (get_or words n 0) (2 ^ (x % 64)))) 2 0 < 2 ^ 31) e
-          (subst⁻¹ (λ (w : ℕ). w < 2 ^ 31) (get_or-set_same words 2 (bit_or (get_or words 2 0) (2 ^ (x % 64))) 0 (omega arith))
-          (or_lt 31 (get_or words 2 0) (2 ^ (x % 64)) only (pow-lt {j = 31} (omega arith))))
-      | inr d ↦ subst⁻¹ (λ (w : ℕ). w < 2 ^ 31) (get_or-set_other words (x / 64) 2 v 0 (λ e. d (sym e))) only
+          rw (e, get_or-set_same words 2 (bit_or (get_or words 2 0) (2 ^ (x % 64))) 0 (omega arith))
+          (or_lt 31 (get_or words 2 0) (2 ^ (x % 64)) only (pow-lt {j = 31} (omega arith)))
+      | inr d ↦ rw (get_or-set_other words (x / 64) 2 v 0 (λ e. d (sym e))) only
     ]
 
 -- ---- the words of two sets, each with the bits of either

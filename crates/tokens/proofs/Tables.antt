@@ -1,7 +1,8 @@
 -- Tables of words, each against its list of kinds.
-use Rattle.std.proofs.Common.{◌≡◌, ℕ, ◌/◌, ◌<◌, Bool, true, ◌&&◌, ◌||◌, eqb, leb, List, [], ◌∷◌, length, sym, refl, ap, ◌∙◌, ap₂, arith, length-set}
+use Rattle.std.proofs.Common.{◌≡◌, ℕ, ◌/◌, ◌<◌, Bool, true, ◌&&◌, ◌||◌, eqb, leb, List, [], ◌∷◌, length, sym, refl, ap, ◌∙◌, arith, length-set}
 use mathlib.Core.Bool.{false≢true}
-use Rattle.std.proofs.lemmas.Bool.{and_parts, eqb-true, leb-true}
+use Rattle.std.proofs.lemmas.Bool.{and_parts, leb-true}
+use Rattle.std.proofs.lemmas.Bool.Decides.{nat_tests}
 use Rattle.tokens.specs.Kinds.{SHEBANG}
 use Rattle.tokens.specs.Words.{in_words, words_of, all_tokens, same}
 use Rattle.tokens.specs.Sets.{has}
@@ -31,9 +32,7 @@ same_eq : (xs ys : List ℕ) → same xs ys ≡ true → xs ≡ ys
 same_eq [] [] t = refl
 same_eq [] (y ∷ ys) t = absurd (false≢true t)
 same_eq (x ∷ xs) [] t = absurd (false≢true t)
-same_eq (x ∷ xs) (y ∷ ys) t =
-    let ts = and_parts (eqb x y) (same xs ys) t in
-    ap₂ ◌∷◌ (eqb-true x y ts.0) (same_eq xs ys ts.1)
+same_eq (x ∷ xs) (y ∷ ys) t = grind (arith, nat_tests, same_eq xs ys)
 
 -- the rule of the tables, from the test over all of them
 pub tables_stand : (ss : List TokenSet) (ls : List (List ℕ)) → by_the_lists ss ls ≡ true → EachStandsFor ss ls
