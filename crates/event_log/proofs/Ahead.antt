@@ -7,7 +7,7 @@ use Rattle.tokens.specs.declared.composite.RawTokens.{RawTokens}
 use Rattle.tokens.specs.declared.composite.RawTokens.TheVariants.{One, Two, Three}
 use Rattle.tokens.specs.Parts.{parts, length_of, width}
 use Rattle.tokens.proofs.Composites.{NoEnd, no_end}
-use Rattle.event_log.specs.Program.{Env, kind_at, contextual_at, follows, raw_ahead, ahead, present, readable, spells}
+use Rattle.event_log.specs.Program.{Env, kind_at, contextual_at, followed_by, raw_ahead, ahead, present, readable, spells}
 
 -- a token that is there lies before the end
 pub within : (e : Env) (i : ℕ) → (kind_at e i ≡ EOF → ⊥) → i < length e.kinds
@@ -41,8 +41,8 @@ spells_present e i k w p h = or_right (eqb w 1 && (not (eqb (kind_at e i) EOF) &
 
 -- What it spells lies before the end
 
-follows_within : (e : Env) (i k : ℕ) → (k ≡ EOF → ⊥) → follows e i k ≡ true → i + 1 < length e.kinds
-follows_within e i k n h = within e (i + 1) (λ q. n (sym (eqb-true _ k (and_parts _ _ h).1) ∙ q))
+followed_within : (e : Env) (i k : ℕ) → (k ≡ EOF → ⊥) → followed_by e i k ≡ true → i + 1 < length e.kinds
+followed_within e i k n h = within e (i + 1) (λ q. n (sym (eqb-true _ k (and_parts _ _ h).1) ∙ q))
 
 -- a test that excludes the end
 not_end : (e : Env) (i : ℕ) (b : Bool) → (not (eqb (kind_at e i) EOF) && b) ≡ true → i < length e.kinds
@@ -51,9 +51,9 @@ not_end e i b h = within e i (eqb-false _ _ (not-true _ (and_parts (not (eqb (ki
 wide_by : (e : Env) (i : ℕ) (r : RawTokens) → i < length e.kinds → NoEnd r → raw_ahead e i r ≡ true → i + length_of r ≤ length e.kinds
 unfolding raw_ahead
 wide_by e i (One a) lt n h = omega (arith, lt)
-wide_by e i (Two a b) lt n h = omega (arith, follows_within e i b n (and_parts (eqb (kind_at e i) a) _ h).1)
+wide_by e i (Two a b) lt n h = omega (arith, followed_within e i b n (and_parts (eqb (kind_at e i) a) _ h).1)
 wide_by e i (Three a b c) lt n h =
-    omega (arith, follows_within e (i + 1) c n.1 (and_parts (follows e i b) _ (and_parts (eqb (kind_at e i) a) _ h).1).1)
+    omega (arith, followed_within e (i + 1) c n.1 (and_parts (followed_by e i b) _ (and_parts (eqb (kind_at e i) a) _ h).1).1)
 
 wide_within : (e : Env) (i k : ℕ) → present e i k ≡ true → i + width k ≤ length e.kinds
 wide_within e i k h = wide_by e i (parts k) (not_end e i (ahead e i k) h) (no_end k) (and_parts (not (eqb (kind_at e i) EOF)) _ h).1

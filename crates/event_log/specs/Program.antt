@@ -87,14 +87,14 @@ abbrev pub joint_at : Env → ℕ → Bool
 joint_at e i = joint_in e.kinds e.joint i
 
 -- the raw token at i is followed by one of this kind with no space between them
-abbrev pub follows : Env → ℕ → ℕ → Bool
-follows e i k = joint_at e i && kind_at e (i + 1) == k
+abbrev pub followed_by : Env → ℕ → ℕ → Bool
+followed_by e i k = joint_at e i && kind_at e (i + 1) == k
 
 -- these raw tokens are next, with no space between them
 unfoldable pub raw_ahead : Env → ℕ → RawTokens → Bool
 raw_ahead e i (One a) = kind_at e i == a
-raw_ahead e i (Two a b) = kind_at e i == a && follows e i b
-raw_ahead e i (Three a b c) = kind_at e i == a && (follows e i b && follows e (i + 1) c)
+raw_ahead e i (Two a b) = kind_at e i == a && followed_by e i b
+raw_ahead e i (Three a b c) = kind_at e i == a && (followed_by e i b && followed_by e (i + 1) c)
 
 -- a token of this kind is next
 abbrev pub ahead : Env → ℕ → ℕ → Bool

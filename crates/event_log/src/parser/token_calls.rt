@@ -1,7 +1,7 @@
 //! The calls of the parser that look at tokens and take them.
 
 ghost use Rattle.std.specs.Prelude.{◌≡◌, ◌+◌, ◌≤◌, true, ◌==◌};
-ghost use Rattle.event_log.specs.Program.{kind_at, contextual_at, edition_at, follows as follows_at, ahead, present, spells, readable};
+ghost use Rattle.event_log.specs.Program.{kind_at, contextual_at, edition_at, followed_by, ahead, present, spells, readable};
 ghost use Rattle.event_log.specs.Program.Prog.{take, fault};
 ghost use Rattle.event_log.specs.Model.{env, Meets};
 ghost use Rattle.event_log.specs.Steps.{bump as bumps, eat as eats, bump_any, bump_remap, eat_contextual, expected_kind, err, expect as expects};
@@ -33,7 +33,7 @@ impl<'a> Parser<'a> {
     /// A raw token of this kind follows the one at this place, with no space between them.
     fn follows(&self, place: usize, kind: SyntaxKind) -> bool
         requires { place ≤ 4100 }
-        ensures { result ≡ follows_at (env self.now) place kind }
+        ensures { result ≡ followed_by (env self.now) place kind }
     {
         self.input.is_joint(place) && self.input.kind(place + 1) == kind
     }
