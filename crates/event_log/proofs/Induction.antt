@@ -1,5 +1,5 @@
 -- The one induction over programs: what each step keeps holds of whatever a program comes to.
-use Rattle.std.proofs.Common.{◌≡◌, ℕ, zero, suc, ◌+◌, ◌<◌, Bool, true, false, cond, ltb, Some, None, Option, refl, suc-le-suc, zero-le, not-suc-le-zero, ltb-true}
+use Rattle.std.proofs.Common.{◌≡◌, ℕ, zero, suc, ◌+◌, ◌<◌, Bool, true, false, cond, ltb, Some, None, Option, sym, refl, subst, suc-le-suc, zero-le, ltb-true}
 use Rattle.refusals.specs.declared.Refusal.{Refusal}
 use Rattle.refusals.specs.declared.Refusal.TheVariants.{LogFull}
 use Rattle.event_log.specs.Forest.{Node, Forest, ◌<>◌, wides, wide_node}
@@ -8,6 +8,7 @@ use Rattle.event_log.specs.Forest.Node.{node, wrap}
 use Rattle.event_log.specs.Forest.Forest.{nil, cons}
 use Rattle.event_log.specs.Program.{Env, Prog, Wraps, Turn, Out, Held, size, size_node, spells, grow, next, record_due, completed, turned, spin, turns}
 use Rattle.event_log.specs.Program.{on_node, wind, wrapped, in_forest, closed, run, precede}
+use Rattle.event_log.proofs.Due.{completed_due}
 use Rattle.event_log.specs.Program.Prog.{give, stop, ◌>>=◌, here, take, fault, chain, repeat}
 use Rattle.event_log.specs.Program.Wraps.{end, see, ◌>-◌, around, many}
 use Rattle.event_log.specs.Program.Turn.{again, done}
@@ -52,9 +53,7 @@ on_completed S s z e (suc k) c i o h = on_due S s e c i o (h (suc-le-suc zero-le
 
 -- the same, if the kind is known not to be 0
 pub on_named : {A : Type 0} (S : Out A → Type 0) (s : (r : Refusal) → S (no r)) (e : Env) (k c i : ℕ) (o : Out A) → 0 < k → (c < e.room → S o) → S (completed e k c i o)
-unfolding completed
-on_named S s e zero c i o z h = absurd (not-suc-le-zero z)
-on_named S s e (suc k) c i o z h = on_due S s e c i o h
+on_named S s e k c i o z h = subst S (sym (completed_due e k c i o z)) (on_due S s e c i o h)
 
 module _ (e : Env) (P : ℕ → ℕ → Forest → Type 0) (Q : ℕ → ℕ → Node → Type 0) (K : Kept e P Q) where
   keep_next : {A B : Type 0} (o : Out A) (k : A → ℕ → ℕ → Out B) (c i : ℕ) → OnOk (P c i) o → ((a : A) (d j : ℕ) → OnOk (P d j) (k a d j)) → OnOk (P c i) (next o k c i)
