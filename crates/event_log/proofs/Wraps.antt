@@ -23,8 +23,7 @@ use Rattle.event_log.specs.Marks.Closed.{closed, unclosed}
 use Rattle.event_log.specs.Marks.Finished.{completed as finished_so, passed as passed_on}
 use Rattle.event_log.specs.Marks.Winds.{wound, refused as unwound}
 use Rattle.event_log.specs.Marks.Led.{led, stuck}
-use Rattle.event_log.proofs.Fuel.{settled_ends, wind_more}
-use Rattle.event_log.proofs.Unrolling.{wind_go, wind_stop}
+use Rattle.event_log.proofs.Fuel.{settled_ends, wind_stop, wind_go, wind_more}
 use Rattle.event_log.proofs.Sizes.{length_flat_node}
 use Rattle.event_log.proofs.Due.{due_ok, due_no, completed_due}
 use Rattle.event_log.proofs.Growth.{faultless_append, grown_then, records}
