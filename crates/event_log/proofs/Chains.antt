@@ -24,7 +24,7 @@ use Rattle.event_log.specs.Marks.Settled.{completed, uncompleted, abandoned, pas
 use Rattle.event_log.specs.Marks.Finished.{completed as finished_so, passed as passed_on}
 use Rattle.event_log.specs.Marks.Winds.{wound, refused as unwound}
 use Rattle.event_log.specs.Steps.{start, node as node_of, complete}
-use Rattle.event_log.proofs.Due.{due_ok, due_no, completed_ok}
+use Rattle.event_log.proofs.Due.{due_ok, due_no, completed_due}
 use Rattle.event_log.proofs.Growth.{still, grown_as, records}
 use Rattle.event_log.proofs.Kit.{full_no, inside, begun, ended, refuses, gives, then, fails, answers, then_gives}
 use Rattle.event_log.proofs.Wraps.{outcome, wraps_end}
@@ -63,7 +63,7 @@ settled : {A : Type 0} (body : Prog (Option ℕ)) (w : ℕ → Wraps A) {s t u v
 unfolding ClosedAt flats wides flat wide flat_node wide_node own kind_of
 settled body w {s} f st e i (completed {k = k} (closed nz lt g at to kind)) =
     held k f
-    (closed_is body w f st e i ∙ completed_ok _ k _ _ _ nz lt)
+    (closed_is body w f st e i ∙ completed_due _ k _ _ _ nz ∙ due_ok _ _ _ _ lt)
     (record { grown = g; start = omega (arith, at, records g, length-append (flats f) (Finish ∷ [])); end = to; kind = kind })
     kind
 settled body w {s} f st e i (uncompleted {k = k} (unclosed more nz why g)) =

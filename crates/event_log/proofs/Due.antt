@@ -1,5 +1,5 @@
 -- What is due where there is room for it, or none.
-use Rattle.std.proofs.Common.{◌≡◌, ℕ, zero, suc, ◌<◌, ◌≤◌, not-suc-le-zero}
+use Rattle.std.proofs.Common.{◌≡◌, ℕ, zero, suc, ◌<◌, ◌≤◌, refl, not-suc-le-zero}
 use Rattle.std.proofs.lemmas.Bool.{lt-ltb, le-ltb}
 use Rattle.refusals.specs.declared.Refusal.TheVariants.{LogFull}
 use Rattle.event_log.specs.Program.{Env, Out, record_due, completed}
@@ -13,12 +13,8 @@ pub due_no : {A : Type 0} (e : Env) (c i : ℕ) (o : Out A) → e.room ≤ c →
 unfolding record_due
 due_no e c i o h = rw (le-ltb c e.room h, record_due)
 
-pub completed_ok : {A : Type 0} (e : Env) (k c i : ℕ) (o : Out A) → 0 < k → c < e.room → completed e k c i o ≡ o
+-- a node of some kind is completed where its end is due
+pub completed_due : {A : Type 0} (e : Env) (k c i : ℕ) (o : Out A) → 0 < k → completed e k c i o ≡ record_due e c i o
 unfolding completed
-completed_ok e zero c i o n h = absurd (not-suc-le-zero n)
-completed_ok e (suc k) c i o n h = due_ok e c i o h
-
-pub completed_full : {A : Type 0} (e : Env) (k c i : ℕ) (o : Out A) → 0 < k → e.room ≤ c → completed e k c i o ≡ no (LogFull i)
-unfolding completed
-completed_full e zero c i o n h = absurd (not-suc-le-zero n)
-completed_full e (suc k) c i o n h = due_no e c i o h
+completed_due e zero c i o n = absurd (not-suc-le-zero n)
+completed_due e (suc k) c i o n = refl

@@ -1,5 +1,6 @@
 -- A loop that has come to an answer or a refusal comes to the same with more turns allowed.
-use Rattle.std.proofs.Common.{◌≡◌, ℕ, zero, suc, ◌+◌, ◌≤◌, Bool, true, false, sym, refl, ap, ◌∙◌, subst, le_of_suc-le-suc, not-suc-le-zero}
+use Rattle.std.proofs.Common.{◌≡◌, ℕ, zero, suc, ◌+◌, ◌≤◌, Bool, true, false, sym, refl, ap, ◌∙◌, ⊎_elim, subst, le_of_suc-le-suc, not-suc-le-zero}
+use Rattle.std.proofs.lemmas.Bool.{cases_Bool}
 use Rattle.event_log.specs.Forest.{Node, Forest, wides}
 use Rattle.event_log.specs.Forest.Forest.{nil}
 use Rattle.event_log.specs.Program.{Turn, Out, Held, size, grow, next, turned, spin, on_node, wind}
@@ -63,20 +64,25 @@ on_node_same : {A B : Type 0} (o : Out (Held A)) (k l : A → Node → Out (Held
 unfolding on_node
 on_node_same o k l same h = on_node_eq o l k (λ f x e. same x.answer x.held (rw e at h))
 
+pub wind_stop : (m : ℕ) (t : Node → Bool) (f : Node → Out (Held ℕ)) (n : Node) → t n ≡ false → wind (suc m) t f n ≡ ok nil (record { held = n; answer = tt })
+unfolding wind
+wind_stop m t f n p = rw (wind, p) refl
+
+pub wind_go : (m : ℕ) (t : Node → Bool) (f : Node → Out (Held ℕ)) (n : Node) → t n ≡ true → wind (suc m) t f n ≡ on_node (f n) (λ _. wind m t f)
+unfolding wind
+wind_go m t f n p = rw (wind, p) refl
+
 pub wind_more : (n m : ℕ) (t : Node → Bool) (f : Node → Out (Held ℕ)) (x : Node) → n ≤ m → Settled (wind n t f x) → wind m t f x ≡ wind n t f x
 unfolding wind
 wind_more zero m t f x l h = absurd h
 wind_more (suc n) zero t f x l h = absurd (not-suc-le-zero l)
-wind_more (suc n) (suc m) t f x l h = go (t x) h (on_node_same (f x) (λ _. wind n t f) (λ _. wind m t f) (λ _ y. wind_more n m t f y (le_of_suc-le-suc l)))
-  where
-    stay : Out (Held (Unit {0}))
-    stay = ok nil (record { held = x; answer = tt })
-
-    go : (b : Bool) → Settled (elim b [ true ↦ on_node (f x) (λ _. wind n t f) | false ↦ stay ])
-        → (Settled (on_node (f x) (λ _. wind n t f)) → on_node (f x) (λ _. wind m t f) ≡ on_node (f x) (λ _. wind n t f))
-        → ◌≡◌ {A = Out (Held (Unit {0}))} (elim b [ true ↦ on_node (f x) (λ _. wind m t f) | false ↦ stay ]) (elim b [ true ↦ on_node (f x) (λ _. wind n t f) | false ↦ stay ])
-    go true s same = same s
-    go false s same = refl
+wind_more (suc n) (suc m) t f x l h =
+    ⊎_elim (λ u.
+    wind_go m t f x u
+    ∙ on_node_same (f x) (λ _. wind n t f) (λ _. wind m t f) (λ _ y. wind_more n m t f y (le_of_suc-le-suc l)) (rw (wind_go n t f x u) at h)
+    ∙ sym (wind_go n t f x u))
+    (λ u. wind_stop m t f x u ∙ sym (wind_stop n t f x u))
+    (cases_Bool (t x))
 
 pub wind_ends : (n m : ℕ) (t : Node → Bool) (f : Node → Out (Held ℕ)) (x : Node) (o : Out (Held (Unit {0}))) → n ≤ m → Settled o → wind n t f x ≡ o → wind m t f x ≡ o
 wind_ends n m t f x o l h e = wind_more n m t f x l (subst Settled (sym e) h) ∙ e

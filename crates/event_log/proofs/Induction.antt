@@ -1,5 +1,6 @@
 -- The one induction over programs: what each step keeps holds of whatever a program comes to.
-use Rattle.std.proofs.Common.{◌≡◌, ℕ, zero, suc, ◌+◌, ◌<◌, Bool, true, false, cond, ltb, Some, None, Option, refl, suc-le-suc, zero-le, not-suc-le-zero, ltb-true}
+use Rattle.std.proofs.Common.{◌≡◌, ℕ, zero, suc, ◌+◌, ◌<◌, Bool, true, false, Some, None, Option, sym, subst, ⊎_elim, suc-le-suc, zero-le}
+use Rattle.std.proofs.lemmas.Bool.{cond_both, cases_lt}
 use Rattle.refusals.specs.declared.Refusal.{Refusal}
 use Rattle.refusals.specs.declared.Refusal.TheVariants.{LogFull}
 use Rattle.event_log.specs.Forest.{Node, Forest, ◌<>◌, wides, wide_node}
@@ -8,6 +9,7 @@ use Rattle.event_log.specs.Forest.Node.{node, wrap}
 use Rattle.event_log.specs.Forest.Forest.{nil, cons}
 use Rattle.event_log.specs.Program.{Env, Prog, Wraps, Turn, Out, Held, size, size_node, spells, grow, next, record_due, completed, turned, spin, turns}
 use Rattle.event_log.specs.Program.{on_node, wind, wrapped, in_forest, closed, run, precede}
+use Rattle.event_log.proofs.Due.{due_ok, due_no, completed_due}
 use Rattle.event_log.specs.Program.Prog.{give, stop, ◌>>=◌, here, take, fault, chain, repeat}
 use Rattle.event_log.specs.Program.Wraps.{end, see, ◌>-◌, around, many}
 use Rattle.event_log.specs.Program.Turn.{again, done}
@@ -38,12 +40,7 @@ OnHeld Q never = Unit {0}
 
 -- A statement of whatever a step comes to that holds of every refusal: where one record more is due, and where a node is completed.
 pub on_due : {A : Type 0} (S : Out A → Type 0) (s : (r : Refusal) → S (no r)) (e : Env) (c i : ℕ) (o : Out A) → (c < e.room → S o) → S (record_due e c i o)
-unfolding record_due
-on_due S s e c i o h = go (ltb c e.room) refl
-  where
-    go : (b : Bool) → ltb c e.room ≡ b → S (elim b [ true ↦ o | false ↦ no (LogFull i) ])
-    go true t = h (ltb-true c e.room t)
-    go false t = s (LogFull i)
+on_due S s e c i o h = ⊎_elim (λ l. subst S (sym (due_ok e c i o l)) (h l)) (λ g. subst S (sym (due_no e c i o g)) (s (LogFull i))) (cases_lt c e.room)
 
 pub on_completed : {A : Type 0} (S : Out A → Type 0) (s : (r : Refusal) → S (no r)) (z : S never) (e : Env) (k c i : ℕ) (o : Out A) → (0 < k → c < e.room → S o) → S (completed e k c i o)
 unfolding completed
@@ -52,9 +49,7 @@ on_completed S s z e (suc k) c i o h = on_due S s e c i o (h (suc-le-suc zero-le
 
 -- the same, if the kind is known not to be 0
 pub on_named : {A : Type 0} (S : Out A → Type 0) (s : (r : Refusal) → S (no r)) (e : Env) (k c i : ℕ) (o : Out A) → 0 < k → (c < e.room → S o) → S (completed e k c i o)
-unfolding completed
-on_named S s e zero c i o z h = absurd (not-suc-le-zero z)
-on_named S s e (suc k) c i o z h = on_due S s e c i o h
+on_named S s e k c i o z h = subst S (sym (completed_due e k c i o z)) (on_due S s e c i o h)
 
 module _ (e : Env) (P : ℕ → ℕ → Forest → Type 0) (Q : ℕ → ℕ → Node → Type 0) (K : Kept e P Q) where
   keep_next : {A B : Type 0} (o : Out A) (k : A → ℕ → ℕ → Out B) (c i : ℕ) → OnOk (P c i) o → ((a : A) (d j : ℕ) → OnOk (P d j) (k a d j)) → OnOk (P c i) (next o k c i)
@@ -117,11 +112,10 @@ module _ (e : Env) (P : ℕ → ℕ → Forest → Type 0) (Q : ℕ → ℕ → 
 
   keep_take : (c i k w : ℕ) → OnOk (P c i) (run (take k w) e c i)
   unfolding run
-  keep_take c i k w = go (spells e i k w) refl
-    where
-      go : (b : Bool) → spells e i k w ≡ b → OnOk (P c i) (cond b (record_due e c i (ok (cons (token k w) nil) (tt {0}))) never)
-      go true t = on_due (OnOk (P c i)) (λ _. tt) e c i (ok (cons (token k w) nil) tt) (K.of_token c i k w t)
-      go false t = tt
+  keep_take c i k w =
+      cond_both (spells e i k w) (record_due e c i (ok (cons (token k w) nil) (tt {0}))) never (OnOk (P c i))
+      (λ t. on_due (OnOk (P c i)) (λ _. tt) e c i (ok (cons (token k w) nil) tt) (K.of_token c i k w t))
+      (λ t. tt)
 
   mutual
     unfolding run precede

@@ -1,8 +1,8 @@
 -- What a program went through that came to an answer.
-use Rattle.std.proofs.Common.{◌≡◌, ℕ, zero, suc, ◌+◌, ◌<◌, Bool, true, false, cond, ltb, ◌⊎◌, Some, None, Option, sym, refl, ap, ◌∙◌, subst, inl, inr, ⊎_elim, suc-le-suc, zero-le, arith, ltb-true}
+use Rattle.std.proofs.Common.{◌≡◌, ℕ, zero, suc, ◌+◌, ◌<◌, Bool, true, false, cond, ◌⊎◌, Some, None, Option, sym, refl, ap, ◌∙◌, subst, inl, inr, ⊎_elim, arith}
 use Rattle.std.proofs.lemmas.Option.{none-some}
+use Rattle.std.proofs.lemmas.Bool.{cond_both}
 use Rattle.refusals.specs.declared.Refusal.{Refusal}
-use Rattle.refusals.specs.declared.Refusal.TheVariants.{LogFull}
 use Rattle.event_log.specs.Forest.{Node, Forest, ◌<>◌, wides, wide_node, kind_of}
 use Rattle.event_log.specs.Forest.Tree.{token, error, whole, gone}
 use Rattle.event_log.specs.Forest.Node.{node, wrap}
@@ -13,6 +13,7 @@ use Rattle.event_log.specs.Program.Prog.{give, stop, ◌>>=◌, here, take, faul
 use Rattle.event_log.specs.Program.Wraps.{end, see, ◌>-◌, around, many}
 use Rattle.event_log.specs.Program.Turn.{again, done}
 use Rattle.event_log.specs.Program.Out.{ok, no, never}
+use Rattle.event_log.proofs.Induction.{on_due, on_completed}
 use Rattle.event_log.specs.Traces.{Bound, Spun, WrappedBy, Wound, ThenBy, Completed, Abandoned, Answers, Ends}
 use Rattle.event_log.specs.Traces.Spun.{last_turn, turn}
 use Rattle.event_log.specs.Traces.Wound.{enough, one_more}
@@ -39,17 +40,11 @@ nil_right (cons t f) = ap (cons t) (nil_right f)
 -- ---- a record more
 
 due_ok : {A : Type 0} (e : Env) (c i : ℕ) (o : Out A) (f : Forest) (a : A) → record_due e c i o ≡ ok f a → (c < e.room) × (o ≡ ok f a)
-unfolding record_due
-due_ok {A = A} e c i o f a h = go (ltb c e.room) refl h
-  where
-    go : (b : Bool) → ltb c e.room ≡ b → ◌≡◌ {A = Out A} (elim b [ true ↦ o | false ↦ no (LogFull i) ]) (ok f a) → (c < e.room) × (o ≡ ok f a)
-    go true t x = (ltb-true c e.room t, x)
-    go false t x = absurd (no≢ok x)
+due_ok e c i o f a h = on_due (λ x. x ≡ ok f a → (c < e.room) × (o ≡ ok f a)) (λ r x. absurd (no≢ok x)) e c i o (λ l x. (l, x)) h
 
 completed_ok : {A : Type 0} (e : Env) (k c i : ℕ) (o : Out A) (f : Forest) (a : A) → completed e k c i o ≡ ok f a → (0 < k) × (c < e.room) × (o ≡ ok f a)
-unfolding completed
-completed_ok e zero c i o f a h = absurd (never≢ok h)
-completed_ok e (suc k) c i o f a h = let r = due_ok e c i o f a h in (suc-le-suc zero-le, r.0, r.1)
+completed_ok e k c i o f a h =
+    on_completed (λ x. x ≡ ok f a → (0 < k) × (c < e.room) × (o ≡ ok f a)) (λ r x. absurd (no≢ok x)) (λ x. absurd (never≢ok x)) e k c i o (λ z l x. (z, l, x)) h
 
 -- ---- the steps
 
@@ -73,12 +68,11 @@ if_ok false m n e c i f a h = inr (refl, h)
 
 pub take_ok : (k w : ℕ) (e : Env) (c i : ℕ) (f : Forest) (u : Unit {0}) → run (take k w) e c i ≡ ok f u → (spells e i k w ≡ true) × (c < e.room) × (f ≡ cons (token k w) nil)
 unfolding run
-take_ok k w e c i f u h = go (spells e i k w) refl h
-  where
-    go : (b : Bool) → spells e i k w ≡ b → ◌≡◌ {A = Out (Unit {0})} (cond b (record_due e c i (ok (cons (token k w) nil) (tt {0}))) never) (ok f u)
-        → (spells e i k w ≡ true) × (c < e.room) × (f ≡ cons (token k w) nil)
-    go true t x = let r = due_ok e c i (ok (cons (token k w) nil) (tt {0})) f u x in (t, r.0, sym (ok_forest r.1))
-    go false t x = absurd (never≢ok x)
+take_ok k w e c i f u h =
+    cond_both (spells e i k w) (record_due e c i (ok (cons (token k w) nil) (tt {0}))) never (λ o. o ≡ ok f u → (spells e i k w ≡ true) × (c < e.room) × (f ≡ cons (token k w) nil))
+    (λ t x. let r = due_ok e c i (ok (cons (token k w) nil) (tt {0})) f u x in (t, r.0, sym (ok_forest r.1)))
+    (λ t x. absurd (never≢ok x))
+    h
 
 pub fault_ok : (n k : ℕ) (e : Env) (c i : ℕ) (f : Forest) (u : Unit {0}) → run (fault n k) e c i ≡ ok f u → (c < e.room) × (f ≡ cons (error n k) nil)
 unfolding run

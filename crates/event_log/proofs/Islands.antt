@@ -1,8 +1,8 @@
 -- Islands: what a hook answers, so many tokens one by one, and a node around them or none.
-use Rattle.std.proofs.Common.{◌≡◌, ℕ, suc, ◌+◌, ◌-◌, ◌<◌, ◌≤◌, Bool, true, false, eqb, length, get_or, IsErrAnd, Some, None, Ok, Err, Option, Result, sym, refl, ap, ◌∙◌, arith}
+use Rattle.std.proofs.Common.{◌≡◌, ℕ, suc, ◌+◌, ◌-◌, ◌<◌, ◌≤◌, true, false, eqb, length, get_or, IsErrAnd, Some, None, Ok, Err, Option, Result, sym, refl, ap, ◌∙◌, ⊎_elim, arith}
 use Rattle.std.proofs.lemmas.List.{get_or_default}
 use Rattle.std.proofs.lemmas.Option.{none-some}
-use Rattle.std.proofs.lemmas.Bool.{eqb-false}
+use Rattle.std.proofs.lemmas.Bool.{eqb-false, cases_Bool}
 use Rattle.refusals.specs.declared.Refusal.{Refusal}
 use Rattle.event_log.specs.Model.{State, Does}
 use Rattle.tokens.specs.declared.rows.Hook.{Hook}
@@ -44,14 +44,11 @@ answer_lawful e i h fit p = rw p (row_lawful e.kinds e.rows i h fit (within e i 
 
 -- a node of an island has a kind
 pub kind_named : (e : Env) (i : ℕ) (h : Hook) {a : Answer} {k : ℕ} → rows_fit e.kinds e.rows ≡ true → a ≡ answer_at e i h → a.kind ≡ Some k → 0 < k
-kind_named e i h {k = k} fit p q = go (eqb (kind_at e i) EOF) refl
-  where
-    kind : (answer_at e i h).kind ≡ Some k
-    kind = ap (λ (x : Answer). x.kind) (sym p) ∙ q
-
-    go : (b : Bool) → eqb (kind_at e i) EOF ≡ b → 0 < k
-    go true z = absurd (none-some k (sym (none_at_end h) ∙ ap (λ (x : Answer). x.kind) (sym (no_answer e i h z)) ∙ kind))
-    go false z = omega (arith, kind_of_node e.kinds i h _ k (answer_lawful e i h fit z) kind)
+kind_named e i h {k = k} fit p q =
+    let kind : (answer_at e i h).kind ≡ Some k = ap (λ (x : Answer). x.kind) (sym p) ∙ q in
+    ⊎_elim (λ z. absurd (none-some k (sym (none_at_end h) ∙ ap (λ (x : Answer). x.kind) (sym (no_answer e i h z)) ∙ kind)))
+    (λ z. omega (arith, kind_of_node e.kinds i h _ k (answer_lawful e i h fit z) kind))
+    (cases_Bool (eqb (kind_at e i) EOF))
 
 -- Tokens one by one: i of n were taken
 

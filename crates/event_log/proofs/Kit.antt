@@ -25,7 +25,7 @@ use Rattle.event_log.proofs.Telling.{flats_append}
 use Rattle.event_log.proofs.Sizes.{wides_append}
 use Rattle.event_log.proofs.Inversion.{nil_right}
 use Rattle.event_log.proofs.Fuel.{settled_ends, spin_more}
-use Rattle.event_log.proofs.Due.{due_ok, due_no, completed_full}
+use Rattle.event_log.proofs.Due.{due_ok, due_no, completed_due}
 use Rattle.event_log.proofs.Growth.{still, grown_then, grown_as, records, there}
 
 -- what goes by them goes by where a forest ends
@@ -151,7 +151,7 @@ ended {s = s} f P g = ap (λ (c : ℕ). P s.env c (s.place + wides f)) (omega ar
 
 -- what it comes to where there is no room for its end
 pub refuses : {A : Type 0} {k : ℕ} {s t : State} {e : Refusal} (o : Out A) → 0 < k → Full s t e → completed_at s.env k (length s.recs) s.place o ≡ no e
-refuses {k = k} o z h = completed_full _ k _ _ o z h.full ∙ full_no h
+refuses {k = k} o z h = completed_due _ k _ _ o z ∙ due_no _ _ _ _ h.full ∙ full_no h
 
 -- an exit of a body that answers with a kind
 pub named_exit : (e : Refusal) (r : Result (Option ℕ) Refusal) → IsErrAnd r (λ f. f ≡ e) → Named r

@@ -1,5 +1,5 @@
 -- Which programs take a token whenever they are accepted: a rule for each form.
-use Rattle.std.proofs.Common.{◌≡◌, ℕ, zero, suc, ◌+◌, ◌<◌, Bool, true, false, cond, eqb, length, Some, None, Ok, Option, sym, refl, ap, ◌∙◌, not-suc-le-zero, arith}
+use Rattle.std.proofs.Common.{◌≡◌, ℕ, zero, suc, ◌+◌, ◌<◌, Bool, true, false, cond, eqb, length, Some, None, Ok, Option, sym, refl, ap, ◌∙◌, ⊎_elim, not-suc-le-zero, arith}
 use Rattle.std.proofs.lemmas.Bool.{both_ways, eqb-true, false_from_ne_true}
 use Rattle.tokens.specs.declared.rows.Hook.{Hook}
 use Rattle.tokens.specs.declared.rows.Hook.TheVariants.{Expr, BlockExpr, Literal, ExprBlockContents, Meta, Pattern, PatternSingle}
@@ -16,10 +16,10 @@ use Rattle.event_log.specs.Program.Wraps.{end}
 use Rattle.event_log.specs.Program.Out.{ok}
 use Rattle.event_log.specs.Model.{State, Does}
 use Rattle.event_log.specs.Model.Does.{did}
-use Rattle.event_log.specs.Steps.{Step, when, start, complete, bump_any, err}
+use Rattle.event_log.specs.Steps.{Step, start, complete, bump_any, err}
 use Rattle.event_log.specs.Island.{island_fault, answer_at, bumps, island_error, island_inside, island_node, island}
 use Rattle.event_log.proofs.Sizes.{wides_append}
-use Rattle.event_log.proofs.Inversion.{give_ok, here_ok, take_ok, fault_ok, bind_ok, end_ok, chain_some, chain_none}
+use Rattle.event_log.proofs.Inversion.{give_ok, here_ok, if_ok, take_ok, fault_ok, bind_ok, end_ok, chain_some, chain_none}
 use Rattle.event_log.proofs.Moves.{Moves}
 use Rattle.event_log.proofs.Islands.{answer_lawful}
 
@@ -85,11 +85,9 @@ takes_bumps (suc n) e c i lt h = takes_first bump_any (λ _. bumps n) e c i (tak
 -- the error of an island takes none
 error_narrow : (h : Hook) (a : Answer) (e : Env) (c i : ℕ) (f : Forest) (u : Unit {0}) → run (island_error h a) e c i ≡ ok f u → wides f ≡ 0
 unfolding wides wide err
-error_narrow h a e c i f u r = go a.fault r
-  where
-    go : (b : Bool) → run (when b (err (island_fault + hook_number h))) e c i ≡ ok f u → wides f ≡ 0
-    go true q = ap wides (fault_ok (island_fault + hook_number h) TOMBSTONE e c i f u q).1
-    go false q = ap wides (give_ok tt e c i f u q).0
+error_narrow h a e c i f u r =
+    ⊎_elim (λ q. ap wides (fault_ok (island_fault + hook_number h) TOMBSTONE e c i f u q.1).1) (λ q. ap wides (give_ok tt e c i f u q.1).0)
+    (if_ok a.fault (err (island_fault + hook_number h)) (give tt) e c i f u r)
 
 takes_inside : (h : Hook) (a : Answer) (e : Env) (c i : ℕ) → 0 < a.tokens → eqb (kind_at e i) EOF ≡ false → Takes (island_inside h a) e c i
 takes_inside h a e c i some there =

@@ -1,5 +1,5 @@
 -- The tokens that a program takes spell the raw tokens, each node of what it comes to has a kind, and it stays inside the raw tokens and the room.
-use Rattle.std.proofs.Common.{◌≡◌, ℕ, ◌+◌, ◌<◌, ◌≤◌, true, cond, ◌&&◌, ltb, leb, ◌⊎◌, List, [], ◌∷◌, ◌++◌, length, sym, refl, ap, ◌∙◌, subst, inl, inr, append-nil, add-zero, add_assoc, zero-add, arith, le-ltb, lt-ltb, le-leb}
+use Rattle.std.proofs.Common.{◌≡◌, ℕ, ◌+◌, ◌<◌, ◌≤◌, true, List, [], ◌∷◌, ◌++◌, length, sym, refl, ap, ◌∙◌, subst, ⊎_elim, append-nil, add-zero, add_assoc, zero-add, arith, le-ltb, lt-ltb, le-leb}
 use borrow.Author.Tests.{lt-leb}
 use Rattle.std.proofs.lemmas.Bool.{cases_lt}
 use Rattle.event_log.specs.Forest.{Tree, Node, Forest, ◌<>◌, flat, flats, wide, wide_node, wides}
@@ -162,11 +162,10 @@ unfolding holding width
 held_once p [] i h l = absurd (omega arith)
 held_once p (enter k ∷ is) i h l = held_once p is i h l
 held_once p (leave ∷ is) i h l = held_once p is i h l
-held_once p (token k w ∷ is) i h l = go (cases_lt p (i + w)) (λ x. held_once p is (i + w) x (omega arith))
-  where
-    go : (p < i + w) ⊎ (i + w ≤ p) → (i + w ≤ p → holding p is (i + w) ≡ 1) → cond (leb i p && ltb p (i + w)) 1 0 + holding p is (i + w) ≡ 1
-    go (inl x) r = rw (le-leb i p h, lt-ltb p (i + w) x) (omega (arith, holding_before p is (i + w) x))
-    go (inr x) r = rw (le-leb i p h, le-ltb p (i + w) x) (omega (arith, r x))
+held_once p (token k w ∷ is) i h l =
+    ⊎_elim (λ x. rw (le-leb i p h, lt-ltb p (i + w) x) (omega (arith, holding_before p is (i + w) x)))
+    (λ x. rw (le-leb i p h, le-ltb p (i + w) x) (omega (arith, held_once p is (i + w) x (omega arith))))
+    (cases_lt p (i + w))
 held_once p (error n k ∷ is) i h l = held_once p is i h l
 
 pub held_by_none : (p : ℕ) (is : List Item) (i : ℕ) → i + width is ≤ p → holding p is i ≡ 0

@@ -4,13 +4,13 @@ use Rattle.std.proofs.Common.{◌≡◌, ℕ, suc, ◌+◌, ◌-◌, ◌<◌, �
 use Rattle.event_log.specs.Forest.{Node, Forest, wides, wide_node}
 use Rattle.event_log.specs.Forest.Node.{wrap}
 use Rattle.event_log.specs.Forest.Forest.{nil}
-use Rattle.event_log.specs.Program.{Env, Prog, Turn, Out, Held, size, size_node, turned, spin, turns, on_node, wind, run, precede}
+use Rattle.event_log.specs.Program.{Env, Prog, Turn, Held, size, size_node, turned, spin, turns, wind, run, precede}
 use Rattle.event_log.specs.Program.Prog.{give, ◌>>=◌, repeat}
 use Rattle.event_log.specs.Program.Wraps.{◌>-◌, around, many}
 use Rattle.event_log.specs.Program.Turn.{again, done}
 use Rattle.event_log.specs.Program.Out.{ok}
 use Rattle.event_log.specs.Settling.{Settled}
-use Rattle.event_log.proofs.Fuel.{next_eq, spin_more, on_node_eq, wind_more}
+use Rattle.event_log.proofs.Fuel.{next_eq, spin_more, on_node_eq, wind_stop, wind_go, wind_more}
 use Rattle.event_log.proofs.Spelling.{run_fine}
 use Rattle.event_log.proofs.Inversion.{around_ok}
 
@@ -40,14 +40,6 @@ repeat_unroll {S = S} b s e c i l h =
     go f (done t) p = refl
 
 -- ---- `many`
-
-pub wind_stop : (m : ℕ) (t : Node → Bool) (f : Node → Out (Held ℕ)) (n : Node) → t n ≡ false → wind (suc m) t f n ≡ ok nil (record { held = n; answer = tt })
-unfolding wind
-wind_stop m t f n p = rw (wind, p) refl
-
-pub wind_go : (m : ℕ) (t : Node → Bool) (f : Node → Out (Held ℕ)) (n : Node) → t n ≡ true → wind (suc m) t f n ≡ on_node (f n) (λ _. wind m t f)
-unfolding wind
-wind_go m t f n p = rw (wind, p) refl
 
 module _ (t : Env → ℕ → Bool) (b : Prog ℕ) (e : Env) (c i : ℕ) (n : Node) where
   -- where the test does not hold, nothing more precedes the node by this loop

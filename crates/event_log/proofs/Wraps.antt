@@ -23,10 +23,9 @@ use Rattle.event_log.specs.Marks.Closed.{closed, unclosed}
 use Rattle.event_log.specs.Marks.Finished.{completed as finished_so, passed as passed_on}
 use Rattle.event_log.specs.Marks.Winds.{wound, refused as unwound}
 use Rattle.event_log.specs.Marks.Led.{led, stuck}
-use Rattle.event_log.proofs.Fuel.{settled_ends, wind_more}
-use Rattle.event_log.proofs.Unrolling.{wind_go, wind_stop}
+use Rattle.event_log.proofs.Fuel.{settled_ends, wind_stop, wind_go, wind_more}
 use Rattle.event_log.proofs.Sizes.{length_flat_node}
-use Rattle.event_log.proofs.Due.{due_ok, due_no, completed_ok}
+use Rattle.event_log.proofs.Due.{due_ok, due_no, completed_due}
 use Rattle.event_log.proofs.Growth.{faultless_append, grown_then, records}
 use Rattle.event_log.proofs.Kit.{full_no, inside, opens, begun, ended, refuses, ends, gives, answers, then_gives}
 
@@ -163,7 +162,7 @@ finished : (body : Prog ℕ) (b : State) (n : Node) {t u v : State} {m : Marker}
 unfolding flat_node wide_node own kind_of
 finished body b n {k = k} f st e i (closed nz lt g at to kind) =
     wound (wrap n k f)
-    (wrapped_is body b n f st e i.grown ∙ completed_ok _ k _ _ _ nz lt
+    (wrapped_is body b n f st e i.grown ∙ completed_due _ k _ _ _ nz ∙ due_ok _ _ _ _ lt
     ∙ ap (λ (j : ℕ). ok nil (record { held = wrap n k f; answer = j })) (sym kind))
     (record { grown = grown_then (since b n) g; start = omega (arith, at, records g, length-append (flats f) (Finish ∷ [])); end = to; kind = kind })
 finished body b n {k = k} f st e i (unclosed more z why g) =
