@@ -1,6 +1,6 @@
 -- What records tell, for code that goes over them by index and keeps marks: what is left to tell from an index on, and one step along
 -- a chain of forward parents.
-use Rattle.std.proofs.Common.{◌≡◌, ℕ, zero, suc, ◌+◌, ◌<◌, ◌≤◌, Bool, true, false, List, [], ◌∷◌, ◌++◌, length, get_or, take, drop, set, Some, None, Option, sym, refl, ap, ◌∙◌, ap₂, append_assoc, le_of_suc-le-suc, not-suc-le-zero, arith, length-drop, take-append-drop, drop_of_length-le, length-take-le, get_or-drop, drop-cons, drop-drop, take-suc-set, drop-set-lt, take-add, drop_at}
+use Rattle.std.proofs.Common.{◌≡◌, ℕ, zero, suc, ◌+◌, ◌<◌, ◌≤◌, Bool, true, false, List, [], ◌∷◌, ◌++◌, length, get_or, take, drop, set, Some, None, Option, sym, ap, ◌∙◌, ap₂, append_assoc, le_of_suc-le-suc, not-suc-le-zero, arith, length-drop, drop_of_length-le, length-take-le, get_or-drop, drop-cons, drop-drop, take-suc-set, drop-set-lt, take-add, drop_at}
 use native.Mathlib.Nat.{suc_inj}
 use Rattle.std.specs.Prelude.{slice_get}
 use Rattle.std.proofs.lemmas.Option.{none-some, same_Some, slice_get_within, get_or_from_slice_get}
@@ -107,12 +107,3 @@ module _ (rs : List Record) (i n j k : ℕ) (fp : Option ℕ) (d : Record) (at :
       ap₂ (λ xs ys. xs ++ use_up (nearer fp) (drop (suc j) rs) ys) (take-suc-set us j true (omega arith)) (drop-set-lt (suc j) us j true (omega arith)) in
       left ∙ sym (append_assoc (take (suc i) us) (take n (drop (suc i) us)) (true ∷ vs)) ∙ ap (λ xs. xs ++ (true ∷ vs)) front
       ∙ sym (append_snoc (take j us) true vs) ∙ sym right
-
--- the walk ends at a start with no forward parent
-pub kinds_end : (rs : List Record) (i : ℕ) → kinds_from rs None i ≡ []
-unfolding climb
-kinds_end rs i = refl
-
-pub marks_end : (rs : List Record) (i : ℕ) (us : List Bool) → marked_from rs None i us ≡ us
-unfolding use_up
-marks_end rs i us = take-append-drop (suc i) us
