@@ -1,7 +1,6 @@
 -- Filling rows: why it is refused, and what the rows hold as the loop goes on.
 use Rattle.std.proofs.Common.{◌≡◌, ℕ, ◌<◌, Bool, true, false, List, [], ◌∷◌, length, get_or, IsErrAnd, Some, None, Ok, Err, Option, Result, sym, refl, ap, ◌∙◌, arith}
 use Rattle.std.proofs.lemmas.Bool.{eqb-true, not-false}
-use Rattle.std.proofs.lemmas.Option.{none-some}
 use Rattle.std.proofs.lemmas.List.FromFn.{fill_by_all}
 use Rattle.refusals.specs.declared.Refusal.{Refusal}
 use Rattle.tokens.specs.declared.input.Input.{Input}
@@ -19,10 +18,7 @@ use Rattle.hosts.specs.Fill.Fills.{filled, refused}
 -- what the first two of three refuse, all three refuse; and where they accept, the third decides
 third : (a b v : Option Refusal) → first_of (a ∷ (b ∷ (v ∷ []))) ≡ elim (first_of (a ∷ (b ∷ []))) [ None ↦ v | Some r ↦ Some r ]
 unfolding first_of
-third (Some r) b v = refl
-third None (Some r) v = refl
-third None None None = refl
-third None None (Some r) = refl
+third a b v = grind arith
 
 -- and where all three accept, so does the second
 accepts : (a : Option Refusal) (d : Bool) (s : Refusal) (v : Option Refusal) → first_of (a ∷ (when d s ∷ (v ∷ []))) ≡ None → d ≡ false

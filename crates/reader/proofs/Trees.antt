@@ -2,7 +2,6 @@
 use Rattle.std.proofs.Common.{◌≡◌, ℕ, zero, suc, ◌+◌, ◌<◌, ◌≤◌, List, ◌++◌, length, get_or, drop, codes, sym, refl, ap, ◌∙◌, append_assoc, append-nil, add-one, arith, drop_of_length-le}
 use Rattle.std.proofs.lemmas.List.{drop_more}
 use Rattle.event_log.specs.declared.item.Item.{Item}
-use Rattle.event_log.specs.declared.item.Item.TheVariants.{Enter, Leave, Token, Error}
 use Rattle.sinks.specs.declared.table.entry.Entry.{Entry}
 use Rattle.sinks.specs.Nodes.{items_in}
 use Rattle.reader.specs.Tree.{indent, line, depth_after, lines}
@@ -25,10 +24,7 @@ indent_more ts us vs d h g =
 -- ---- lines
 
 pub depth_low : (d : ℕ) (x : Item) → depth_after d x ≤ d + 1
-depth_low d (Enter k) = omega arith
-depth_low d Leave = omega arith
-depth_low d (Token k w) = omega arith
-depth_low d (Error n k) = omega arith
+depth_low d x = grind arith
 
 -- one entry more
 pub lines_more : (ts us : List ℕ) (d e : ℕ) (es : List Entry) (i : ℕ) (z : Entry) → i < length es → us ≡ ts ++ line d (get_or es i z).item → e ≡ depth_after d (get_or es i z).item

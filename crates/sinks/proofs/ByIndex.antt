@@ -1,9 +1,9 @@
 -- What records tell, for code that goes over them by index and keeps marks: what is left to tell from an index on, and one step along
 -- a chain of forward parents.
-use Rattle.std.proofs.Common.{◌≡◌, ℕ, zero, suc, ◌+◌, ◌<◌, ◌≤◌, Bool, true, false, List, [], ◌∷◌, ◌++◌, length, get_or, take, drop, set, Some, None, Option, sym, refl, ap, ◌∙◌, ap₂, append_assoc, le_of_suc-le-suc, not-suc-le-zero, arith, length-drop, take-append-drop, drop_of_length-le, length-take-le, get_or-drop, drop-cons, drop-drop, take-suc-set, drop-set-lt, take-add, drop_at}
+use Rattle.std.proofs.Common.{◌≡◌, ℕ, zero, suc, ◌+◌, ◌<◌, ◌≤◌, Bool, true, false, List, [], ◌∷◌, ◌++◌, length, get_or, take, drop, set, Some, None, Option, sym, ap, ◌∙◌, ap₂, append_assoc, le_of_suc-le-suc, not-suc-le-zero, arith, length-drop, drop_of_length-le, length-take-le, get_or-drop, drop-cons, drop-drop, take-suc-set, drop-set-lt, take-add, drop_at}
 use native.Mathlib.Nat.{suc_inj}
 use Rattle.std.specs.Prelude.{slice_get}
-use Rattle.std.proofs.lemmas.Option.{none-some, same_Some, slice_get_within, get_or_from_slice_get}
+use Rattle.std.proofs.lemmas.Option.{slice_get_within, get_or_from_slice_get}
 use lib.Seq.{append_snoc}
 use Rattle.event_log.specs.declared.event.Record.{Record}
 use Rattle.event_log.specs.declared.event.Record.TheVariants.{Start, Finish, Token, Error}
@@ -37,14 +37,11 @@ module _ (rs : List Record) (us : List Bool) (i : ℕ) (l : length us ≡ length
 
   pub each_alone : (r : Record) (x : Item) → slice_get rs i ≡ Some r → alone r ≡ Some x → each_from rs us i ≡ (x ∷ []) ∷ each_from rs us (suc i)
   unfolding tell_each
-  each_alone (Start k fp) x h e = absurd (none-some x e)
-  each_alone Finish x h e = opened Finish h ∙ ap (λ y. (y ∷ []) ∷ each_from rs us (suc i)) (same_Some leave x e)
-  each_alone (Token k w) x h e = opened (Token k w) h ∙ ap (λ y. (y ∷ []) ∷ each_from rs us (suc i)) (same_Some (told_token k w) x e)
-  each_alone (Error n k) x h e = opened (Error n k) h ∙ ap (λ y. (y ∷ []) ∷ each_from rs us (suc i)) (same_Some (told_error n k) x e)
+  each_alone r x h e = grind (arith, opened r h)
 
   pub each_used : (k : ℕ) (fp : Option ℕ) → slice_get rs i ≡ Some (Start k fp) → get_or us i false ≡ true → each_from rs us i ≡ [] ∷ each_from rs us (suc i)
   unfolding tell_each
-  each_used k fp h u = opened (Start k fp) h ∙ ap (λ v. tell_each (Start k fp ∷ drop (suc i) rs) (v ∷ drop (suc i) us)) u
+  each_used k fp h u = grind (arith, opened (Start k fp) h)
 
   pub each_start : (k : ℕ) (fp : Option ℕ) → slice_get rs i ≡ Some (Start k fp) → get_or us i false ≡ false
       → each_from rs us i ≡ enters (k ∷ kinds_from rs fp i) ∷ each_from rs (marked_from rs fp i us) (suc i)
@@ -107,12 +104,3 @@ module _ (rs : List Record) (i n j k : ℕ) (fp : Option ℕ) (d : Record) (at :
       ap₂ (λ xs ys. xs ++ use_up (nearer fp) (drop (suc j) rs) ys) (take-suc-set us j true (omega arith)) (drop-set-lt (suc j) us j true (omega arith)) in
       left ∙ sym (append_assoc (take (suc i) us) (take n (drop (suc i) us)) (true ∷ vs)) ∙ ap (λ xs. xs ++ (true ∷ vs)) front
       ∙ sym (append_snoc (take j us) true vs) ∙ sym right
-
--- the walk ends at a start with no forward parent
-pub kinds_end : (rs : List Record) (i : ℕ) → kinds_from rs None i ≡ []
-unfolding climb
-kinds_end rs i = refl
-
-pub marks_end : (rs : List Record) (i : ℕ) (us : List Bool) → marked_from rs None i us ≡ us
-unfolding use_up
-marks_end rs i us = take-append-drop (suc i) us

@@ -14,7 +14,7 @@ use Rattle.sinks.specs.Walk.{forward_of, is_start, kind_of, at, ahead, parent_of
 use Rattle.sinks.specs.declared.sink.Full.{Full}
 use Rattle.sinks.specs.Sink.{Heard, Takes, Tells}
 use Rattle.sinks.proofs.Taking.{tells_none, tells_one, tells_then, tells_exit, tells_as}
-use Rattle.sinks.proofs.ByIndex.{marked_from, kinds_from, kinds_step, marks_step, kinds_end, marks_end}
+use Rattle.sinks.proofs.ByIndex.{marked_from, kinds_from, kinds_step, marks_step}
 
 -- ---- where no start is
 
@@ -79,7 +79,7 @@ module _ (rs : List Record) (i : ℕ) (fp : Option ℕ) (h : is_start (at rs i) 
 
 onward_by : (rs : List Record) (i : ℕ) (fp : Option ℕ) → is_start (at rs i) ≡ true → forward_of (at rs i) ≡ fp → Onward rs i (ahead rs i fp)
 unfolding climb use_up
-onward_by rs i None h f = top rs i None h f (kinds_end rs i) (λ us l. marks_end rs i us)
+onward_by rs i None h f = top rs i None h f refl (λ us l. take-append-drop (suc i) us)
 onward_by rs i (Some zero) h f = top rs i (Some zero) h f refl (λ us l. take-append-drop (suc i) us)
 onward_by rs i (Some (suc n)) h f = rw (lt-ltb 0 (suc n) (omega arith)) (go (is_start (at rs (i + suc n))) refl)
   where
@@ -122,8 +122,7 @@ module _ (rs : List Record) (i n : ℕ) (ks : List ℕ) (h : is_start (at rs i) 
 
 entered : (k : ℕ) → (k ≡ 0 → ⊥) → enter k ∷ [] ≡ enters (k ∷ [])
 unfolding enters enter_unless_0
-entered zero z = absurd (z refl)
-entered (suc k) z = refl
+entered k z = grind arith
 
 not_entered : [] ≡ enters (0 ∷ [])
 unfolding enters enter_unless_0
