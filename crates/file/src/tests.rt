@@ -46,7 +46,11 @@ fn short_files(rt: HostRuntime) {
 
 #[test]
 fn too_many_tokens(rt: HostRuntime) {
-    refused(&rt, &[0x10, 1], Refusal::TooManyTokens { layer: Layer::File });
+    refused(
+        &rt,
+        &[0x10, 1],
+        Refusal::TooManyTokens { layer: Layer::File },
+    );
 }
 
 #[test]

@@ -1,8 +1,7 @@
-use Rattle.std.proofs.Common.{ap, sym, ◌∙◌, arith, rules}
+use Rattle.std.proofs.Common.{ap, sym, ◌∙◌, rules}
 use Rattle.std.specs.Prelude.{is_ok}
 use Rattle.std.proofs.lemmas.Option.{slice_get-get_or}
 use Rattle.sinks.proofs.Groups.{so_far_none, so_far_ok, so_far_all, so_far_err}
-use Rattle.sinks.proofs.Marks.{enough}
 use Rattle.sinks.proofs.walk.tell.Goals as goal
 
 pub loop-at-init : goal.loop-at-init
