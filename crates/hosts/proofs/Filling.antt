@@ -1,6 +1,7 @@
 -- Filling rows: why it is refused, and what the rows hold as the loop goes on.
-use Rattle.std.proofs.Common.{◌≡◌, ℕ, ◌<◌, Bool, true, false, List, [], ◌∷◌, length, get_or, IsErrAnd, Some, None, Ok, Err, Option, Result, sym, refl, ap, ◌∙◌, arith}
+use Rattle.std.proofs.Common.{◌≡◌, ◌≢◌, ℕ, ◌+◌, ◌<◌, Bool, true, false, List, [], ◌∷◌, length, get_or, set, below_more, IsErrAnd, Some, None, Ok, Err, Option, Result, sym, refl, ap, ◌∙◌, arith}
 use Rattle.std.proofs.lemmas.Bool.{eqb-true, not-false}
+use Rattle.std.proofs.lemmas.List.{get_or-set_same, get_or-set_other}
 use Rattle.std.proofs.lemmas.List.FromFn.{fill_by_all}
 use Rattle.refusals.specs.declared.Refusal.{Refusal}
 use Rattle.tokens.specs.declared.input.Input.{Input}
@@ -46,6 +47,15 @@ module _ (m : Hook → Columns → ℕ → Answer) (i : Input) where
   pub record Filled (rows : List Row) (n : ℕ) : Type 0 where
     pub told : (p : ℕ) → p < n → (d : Row) → get_or rows p d ≡ row_of m (columns i) p
     pub lawful : (p : ℕ) → p < n → lawful_row i.kinds.now p (row_of m (columns i) p) ≡ true
+
+  pub filled_more : {rows : List Row} {n : ℕ} {r : Row} → Filled rows n → n < length rows → r ≡ row_of m (columns i) n → lawful_row i.kinds.now n r ≡ true → Filled (set rows n r) (n + 1)
+  filled_more {rows} {n} {r} f lt e l = record {
+    told = below_more (λ p. (d : Row) → get_or (set rows n r) p d ≡ row_of m (columns i) p) n
+        (λ p h d. let ne : p ≢ n = omega arith in get_or-set_other rows n p r d ne ∙ f.told p h d)
+        (λ d. get_or-set_same rows n r d lt ∙ e);
+    lawful = below_more (λ p. lawful_row i.kinds.now p (row_of m (columns i) p) ≡ true) n f.lawful
+        (ap (lawful_row i.kinds.now n) (sym e) ∙ l);
+  }
 
   pub fill_all : {before after : List Row} {n : ℕ} {x : Unit {0}} → None ≡ fill_verdict i (length before) → Filled after n → n ≡ length after → length after ≡ length before → Fills m i before after (Ok x)
   fill_all {before} {after} {n} v f e s =
