@@ -106,8 +106,11 @@ pub record BlankLog (input : Input) (rows : List Row) (n : ℕ) (l : Log) : Type
   pub log : l.records.now ≡ replicate n blank
   pub same : env_before l ≡ env_with_rows input rows n
 
--- A parser before the first token of a log, with the records as they are.
+-- A parser before the first token of a log: over its very columns, rows and records, which stay as they are.
 pub record Resumes (l : Log) (p : Parser) : Type 0 where
+  pub input : p.input ≡ l.input
+  pub rows : p.rows ≡ l.rows
+  pub over : p.records ≡ l.records
   pub log : p.records.now ≡ l.records.now
   pub count : p.count ≡ 0
   pub place : p.place ≡ 0

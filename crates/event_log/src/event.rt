@@ -1,6 +1,7 @@
 use tokens::syntax_kind::{SyntaxKind, TOMBSTONE};
 
-/// One record of the log. Its kinds and numbers are numbers, and no enums: records with any numbers can be told, and a listing prints them.
+/// One record of the log. Its kinds and numbers are numbers, TOMBSTONE for no kind, and no enums: records with any numbers can be told, and a
+/// listing prints them. A start that precedes is told by its distance, as in the Rust: the log is lent memory, and no tree.
 #[derive(Clone, Copy, PartialEq, Eq, Debug)]
 pub enum Record {
     /// A node begins. `forward` is how many records further on the start of the node lies that precedes this one.

@@ -18,7 +18,7 @@ pub struct Parser<'a> {
     input: Input<'a>,
     /// what the islands at each token answer, or nothing
     rows: &'a [Row],
-    // lent memory with a count beside it: what lies past the count is promised to be blank, and the room may come to be less than the length
+    // Lent memory with a count beside it: what lies past the count is promised to be blank. The definitions ask for the room, and not for the length.
     records: &'a mut [Record],
     /// how many records there may come to be
     room: usize,

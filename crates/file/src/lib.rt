@@ -63,6 +63,7 @@ struct TokenFile<'a> {
     ghost held: { token_at count ≤ 8 * length bytes.now },
 }
 
+// That a token is one of the file is asked of each part: a type for a token would be made for an entry only to be taken apart.
 impl<'a> TokenFile<'a> {
     fn open(bytes: &'a [u8]) -> Result<TokenFile<'a>, Refusal>
         ensures { MatchResult result (λ file. (file.bytes.now ≡ bytes.now) × (tokens_of bytes.now ≡ Ok file.count)) (λ e. tokens_of bytes.now ≡ Err e) }
@@ -85,18 +86,12 @@ impl<'a> TokenFile<'a> {
         Ok(TokenFile { bytes, count })
     }
 
-    fn kind(&self, i: usize) -> u16
-        requires { i < self.now.count }
-        ensures { result ≡ kind_of self.now.bytes.now i }
+    /// The kind that stands `offset` bits into token `i`: its own, or its contextual one.
+    fn kind(&self, i: usize, offset: usize) -> u16
+        requires { (i < self.now.count) × (offset ≤ 8) }
+        ensures { result ≡ number_at self.now.bytes.now (token_at i + offset) 8 }
     {
-        number(self.bytes, token_start(i), 8)
-    }
-
-    fn contextual_kind(&self, i: usize) -> u16
-        requires { i < self.now.count }
-        ensures { result ≡ contextual_of self.now.bytes.now i }
-    {
-        number(self.bytes, token_start(i) + CONTEXTUAL, 8)
+        number(self.bytes, token_start(i) + offset, 8)
     }
 
     fn joint_bit(&self, i: usize) -> u8
@@ -178,8 +173,8 @@ pub fn read_file(bytes: &[u8], columns: Columns<'_>) -> Result<usize, Refusal>
         joint,
         editions,
     } = columns;
-    write_front(kinds, count, |i| file.kind(i));
-    write_front(contextual, count, |i| file.contextual_kind(i));
+    write_front(kinds, count, |i| file.kind(i, 0));
+    write_front(contextual, count, |i| file.kind(i, CONTEXTUAL));
     write_front(joint, count.div_ceil(64), |w| file.joint_word(w));
     write_front(editions, count, |i| file.edition(i));
     Ok(count)

@@ -56,13 +56,12 @@ pub fn check_row_count(input: Input, rows: usize) -> Result<(), Refusal>
 
 /// Every column is as long as it has to be, and the log is not too long.
 fn lengths_fit(input: Input, records: usize) -> bool
-    requires { length input.kinds.now ≤ 4096 }
     ensures { result ≡ fits input.entry records }
 {
     let tokens = input.kinds.len();
     input.contextual.len() == tokens
         && input.editions.len() == tokens
-        && input.joint.len() == (tokens + 63) / 64
+        && input.joint.len() == tokens.div_ceil(64)
         && records <= MAX_RECORDS
 }
 

@@ -17,7 +17,7 @@ use event_log::item::Item;
 #[derive(Drop)]
 pub struct NodeTable<'a> {
     entries: LentVec<'a, Entry>,
-    /// the enter that the next item stands in, by its number, or 0, as in an entry
+    /// the enter that the next item stands in, by its number, or 0: what goes into its entry
     node: usize,
     ghost kept: { nodes_in (stored entries) ≡ around (items_in (stored entries)) },
     ghost inside: { node ≡ innermost (open_after (items_in (stored entries))) },

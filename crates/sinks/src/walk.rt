@@ -16,7 +16,7 @@ mod start;
 #[cfg(test)]
 mod tests;
 
-/// Tells the sink all that was recorded. It works with a mark for each record, a byte of lent memory: refused 9 where there are fewer, and nothing is told then.
+/// Tells the sink all that was recorded. It works with a mark for each record, a byte, as it is lent: refused 9 where there are fewer, and nothing is told then.
 /// Refused 10 where the sink is full, at the record reached; what was told before stays told. The marks are zero in the end.
 pub fn walk<S: Sink>(reading: &Reading, marks: &mut [u8], sink: &mut S) -> Result<(), Refusal>
     ensures told { Walks S.size (of reading.now.parser).recs marks.old marks.new (S.heard sink.old) (S.heard sink.new) result }

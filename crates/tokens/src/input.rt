@@ -12,11 +12,11 @@ pub const MAX_TOKENS: usize = 4096;
 #[derive(Clone, Copy)]
 pub struct Input<'a> {
     pub kinds: &'a [u16],
-    /// the keyword that an identifier may also be read as, or EOF
+    /// the keyword that an identifier may also be read as, or EOF, since the column is lent so
     pub contextual: &'a [u16],
     /// whether no space follows the token
     pub joint: &'a [u64],
-    /// the edition that the token is read in: 2015, 2018, 2021, 2024 from 0
+    /// the edition that the token is read in: 2015, 2018, 2021, 2024 from 0, as numbers, since the column is lent so
     pub editions: &'a [u8],
 }
 

@@ -164,7 +164,7 @@ fn must_take(hook: Hook, kind: SyntaxKind) -> bool
     match hook {
         Hook::BlockExpr => kind == L_CURLY,
         Hook::Literal => is_literal(kind),
-        Hook::PatternSingle => kind == IDENT || kind == UNDERSCORE,
+        Hook::PatternSingle => matches!(kind, IDENT | UNDERSCORE),
         _ => false,
     }
 }

@@ -160,7 +160,7 @@ impl<'a> Parser<'a> {
         Ok(true)
     }
 
-    /// Records an error that carries no kind.
+    /// Records an error that carries no kind. Any number may be one: an enum would ask more of callers.
     pub fn error(&mut self, number: u8) -> Result<(), Refusal>
         ensures { Meets (err number) self.old self.new result }
     {

@@ -5,7 +5,7 @@ use event_log::item::Item;
 pub struct Entry {
     pub item: Item,
     /// The number of the enter around the item, counted among all items from 1, or 0 outside of every node.
-    /// An `Option` would make an entry of lent memory half as large again.
+    /// No `Option`, which would take half as much again of the fixed memory that is lent: 24 bytes in place of 16.
     pub node: usize,
 }
 
