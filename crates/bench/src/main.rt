@@ -43,6 +43,7 @@ fn time(
         tell(records, marks, memory)?;
     }
     let nanos = start.elapsed(rt)?.as_nanos();
+    // `as` is proved to lose nothing; `from` would add an equation to the proof.
     let tenths = nanos.saturating_mul(10) / (turns as u128) / (count as u128);
     let whole = tenths / 10;
     let part = tenths % 10;

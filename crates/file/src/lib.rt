@@ -105,6 +105,7 @@ impl<'a> TokenFile<'a> {
         requires { i < self.now.count }
         ensures { result ≡ edition_of self.now.bytes.now i }
     {
+        // `as` is proved to lose nothing; `try_from` would answer an error that cannot come.
         number(self.bytes, token_start(i) + EDITION, 2) as u8
     }
 

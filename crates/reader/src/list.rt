@@ -63,6 +63,7 @@ pub fn list<S: Sink>(bytes: &[u8], sink: &mut S) -> Result<(), Refusal>
     let mut records = [Record::BLANK; RECORDS];
     let mut marks = [0; RECORDS];
     let mut reading = Reading::new();
+    // No `?`: the error hands the log back, and a closure for `map_err` over an error with a `&mut` is not covered.
     if let Err(unopened) = reading.open(input, &mut records) {
         return Err(unopened.refusal);
     }

@@ -31,6 +31,7 @@ impl Hook {
     pub fn number(self) -> u8
         ensures { result ≡ hook_number self }
     {
+        // the number that stands at each variant
         self as u8
     }
 }

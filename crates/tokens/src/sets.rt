@@ -15,6 +15,7 @@ use crate::syntax_kind::{
 use crate::token_set::TokenSet;
 
 /// A table: the set of all that is in these sets, and of these kinds. A constant calls no function, so this stands for `TokenSet::new` and `union`.
+/// Each kind is shifted into its own word alone, by a cast of the test for it.
 macro_rules! token_set {
     ($($set:ident |)* [$($kind:ident),*]) => {
         TokenSet {

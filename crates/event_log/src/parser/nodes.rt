@@ -151,6 +151,7 @@ impl CompletedMarker {
             kind,
         } = self;
         let m = p.start()?;
+        // `as` is proved to lose nothing; `try_from` would answer an error that cannot come.
         p.records[start] = Record::Start {
             kind,
             forward: Some((m.at - start) as u16),

@@ -107,6 +107,7 @@ impl<'a> Parser<'a> {
         ensures { Meets (take kind width) self.old self.new result }
     {
         self.push(Record::Token { kind, width })?;
+        // `as` is proved to lose nothing; `from` would add an equation to the proof.
         self.place += width as usize;
         Ok(())
     }

@@ -19,6 +19,7 @@ impl TokenSet {
         let mut words = [0; 3];
         for kind in kinds {
             if *kind <= SHEBANG {
+                // `as` is proved to lose nothing; `from` would add an equation to the proof.
                 words[*kind as usize / 64] |= mask(*kind);
             }
         }
@@ -41,6 +42,7 @@ impl TokenSet {
         if kind > SHEBANG {
             return false;
         }
+        // `as` is proved to lose nothing; `from` would add an equation to the proof.
         has_bit(self.words[kind as usize / 64], kind)
     }
 }
