@@ -97,25 +97,28 @@ pub record Holds (l m : Parser) (rs : List Record) (i : ℕ) : Type 0 where
   pub place : m.place ≡ i
   pub same : env m ≡ env l
 
--- the tokens and the rows of a log, and room for all its records
-abbrev pub env_before : Log → Env
-env_before l = env_with_rows l.input l.rows.now (length l.records.now)
+-- the tokens, the rows and the room of a log
+abbrev pub env_of_log : Log → Env
+env_of_log l = env_with_rows l.input l.rows.now l.room
 
--- A log of so many records, all blank, for these tokens, with these rows.
+-- A log before the first of these tokens, with these rows and so many records, all blank.
 pub record BlankLog (input : Input) (rows : List Row) (n : ℕ) (l : Log) : Type 0 where
   pub log : l.records.now ≡ replicate n blank
-  pub same : env_before l ≡ env_with_rows input rows n
+  pub count : l.count ≡ 0
+  pub place : l.place ≡ 0
+  pub clean : l.clean ≡ true
+  pub same : env_of_log l ≡ env_with_rows input rows n
 
--- A parser before the first token of a log: over its very columns, rows and records, which stay as they are.
+-- A parser that goes on with a log: over its very columns, rows and records, which stay as they are, from where it had come to.
 pub record Resumes (l : Log) (p : Parser) : Type 0 where
   pub input : p.input ≡ l.input
   pub rows : p.rows ≡ l.rows
   pub over : p.records ≡ l.records
   pub log : p.records.now ≡ l.records.now
-  pub count : p.count ≡ 0
-  pub place : p.place ≡ 0
-  pub clean : p.clean ≡ true
-  pub same : env p ≡ env_before l
+  pub count : p.count ≡ l.count
+  pub place : p.place ≡ l.place
+  pub clean : p.clean ≡ l.clean
+  pub same : env p ≡ env_of_log l
 
 -- A parser before the first of these tokens, with so many records, all blank.
 pub record New (input : Input) (n : ℕ) (l : Parser) : Type 0 where

@@ -1,7 +1,7 @@
-//! The lent log before a parser goes through it, how many records it may have, and what a call takes.
+//! The lent log between the calls of a parser, how many records it may have, and what a call takes.
 
-ghost use Rattle.std.specs.Prelude.{◌≡◌, true, [], length};
-ghost use Rattle.event_log.specs.Sound.{all_blank};
+ghost use Rattle.std.specs.Prelude.{◌≡◌, [], length, take};
+ghost use Rattle.event_log.specs.Sound.{Within, Roomy, Inside, Blanks};
 
 use super::event::Record;
 use tokens::input::Input;
@@ -10,20 +10,30 @@ use tokens::rows::Row;
 /// How many records a log has at most.
 pub const MAX_RECORDS: usize = 65535;
 
-/// Tokens, and the lent log of what will be made of them: all blank. `Parser::resume` begins with one.
+/// Tokens, and the lent log of what was made of them so far, however many there are. `Parser::resume` goes on with one.
 #[derive(Drop)]
 pub struct Log<'a> {
     pub(crate) input: Input<'a>,
     /// what the islands at each token answer, or nothing
     pub(crate) rows: &'a [Row],
     pub(crate) records: &'a mut [Record],
-    ghost blanks: { all_blank records.now ≡ true },
+    /// how many records there may come to be
+    pub(crate) room: usize,
+    pub(crate) count: usize,
+    /// how many raw tokens were taken
+    pub(crate) place: usize,
+    /// no error was recorded since the call began
+    pub(crate) clean: bool,
+    ghost within: { Within count room },
+    ghost roomy: { Roomy room records.now },
+    ghost inside: { Inside place input.kinds.now },
+    ghost blanks: { Blanks count records.now },
 }
 
 impl<'a> Log<'a> {
     ghost use Rattle.event_log.specs.Model.{BlankLog};
 
-    /// Makes all of these records blank. There are no rows.
+    /// The log before the first token, with all of these records blank, and with no rows.
     pub fn new(input: Input<'a>, records: &'a mut [Record]) -> Log<'a>
         ensures { BlankLog input.entry [] (length records.old) result }
     {
@@ -35,11 +45,30 @@ impl<'a> Log<'a> {
         ensures { BlankLog input.entry rows.now (length records.old) result }
     {
         records.fill(Record::BLANK);
+        let room = records.len();
         Log {
             input,
             rows,
             records,
+            room,
+            count: 0,
+            place: 0,
+            clean: true,
         }
+    }
+
+    /// How many raw tokens were taken.
+    pub fn place(&self) -> usize
+        ensures { result ≡ self.now.place }
+    {
+        self.place
+    }
+
+    /// What was recorded so far.
+    pub fn recorded(&self) -> &[Record]
+        ensures { result.now ≡ take self.now.count self.now.records.now }
+    {
+        &self.records[..self.count]
     }
 }
 

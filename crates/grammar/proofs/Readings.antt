@@ -21,13 +21,13 @@ use Rattle.event_log.specs.Reading.{Call as program_call, Reading, begun, kept, 
 use Rattle.event_log.specs.Reading.Call.{call}
 use Rattle.grammar.specs.Calls.{Call, program, seen, Leads, Reached}
 
--- A blank log that a parser goes on with
+-- A log before the first token, that a parser goes on with
 
 pub new_by : {i : Input} {n : ℕ} {l : Log} {p : Parser} → BlankLog i [] n l → Resumes l p → New i n p
-new_by b r = record { log = r.log ∙ b.log; count = r.count; place = r.place; clean = r.clean; same = r.same ∙ b.same }
+new_by b r = record { log = r.log ∙ b.log; count = r.count ∙ b.count; place = r.place ∙ b.place; clean = r.clean ∙ b.clean; same = r.same ∙ b.same }
 
 pub new_with_rows_by : {i : Input} {rows : List Row} {n : ℕ} {l : Log} {p : Parser} → BlankLog i rows n l → Resumes l p → NewWithRows i rows n p
-new_with_rows_by b r = record { log = r.log ∙ b.log; count = r.count; place = r.place; clean = r.clean; same = r.same ∙ b.same }
+new_with_rows_by b r = record { log = r.log ∙ b.log; count = r.count ∙ b.count; place = r.place ∙ b.place; clean = r.clean ∙ b.clean; same = r.same ∙ b.same }
 
 -- columns that are not refused are few, and so are the records
 pub few_of : {i : Input} {rows : List Row} {n : ℕ} {l : Log} → BlankLog i rows n l → verdict i n ≡ None → Few l.input.kinds.now × Short l.records.now

@@ -25,7 +25,7 @@ fn blank(records: &mut [Record], from: usize, to: usize)
 }
 
 impl<'a> Parser<'a> {
-    /// Goes on with a log, before the first token.
+    /// Goes on with a log.
     pub fn resume(log: Log<'a>) -> Parser<'a>
         requires few { Few log.input.kinds.now }
         requires short { Short log.records.now }
@@ -35,16 +35,43 @@ impl<'a> Parser<'a> {
             input,
             rows,
             records,
+            room,
+            count,
+            place,
+            clean,
         } = log;
-        let room = records.len();
         Parser {
             input,
             rows,
             records,
             room,
-            count: 0,
-            place: 0,
-            clean: true,
+            count,
+            place,
+            clean,
+        }
+    }
+
+    /// Gives the log back, to go on with it another time.
+    pub fn pause(self) -> Log<'a>
+        ensures { Resumes result self.entry }
+    {
+        let Parser {
+            input,
+            rows,
+            records,
+            room,
+            count,
+            place,
+            clean,
+        } = self;
+        Log {
+            input,
+            rows,
+            records,
+            room,
+            count,
+            place,
+            clean,
         }
     }
 

@@ -14,7 +14,7 @@ resume-self-requires c =
     record { few = few.0; short = few.1 }
 
 pub invariant_of-self : goal.invariant_of-self
-invariant_of-self c = let h = c.resume-self.ensures in record { reached = reached_none c.resume-self.result h.count h.place }
+invariant_of-self c = let h = new_with_rows_by c.with_rows.ensures c.resume-self.ensures in record { reached = reached_none c.resume-self.result h.count h.place }
 
 pub returns : goal.returns
 returns c =
