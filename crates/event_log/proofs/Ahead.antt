@@ -1,7 +1,7 @@
 -- Which tokens are next.
 use Rattle.std.proofs.Common.{◌≡◌, ℕ, ◌+◌, ◌<◌, ◌≤◌, Bool, true, false, not, ◌&&◌, eqb, length, sym, refl, ◌∙◌, ⊎_elim, arith}
 use Rattle.std.proofs.lemmas.List.{get_or_past}
-use Rattle.std.proofs.lemmas.Bool.{and_from, and_parts, or_left, or_right, or_cases, ne_eqb, eq-eqb, eqb-true, eqb-false, not-true, cases_lt, not_from_false}
+use Rattle.std.proofs.lemmas.Bool.{and_right, and_from, and_parts, or_left, or_right, or_cases, ne_eqb, eq-eqb, eqb-true, eqb-false, not-true, cases_lt, not_from_false}
 use Rattle.tokens.specs.Kinds.{EOF}
 use Rattle.tokens.specs.declared.composite.RawTokens.{RawTokens}
 use Rattle.tokens.specs.declared.composite.RawTokens.TheVariants.{One, Two, Three}
@@ -26,6 +26,36 @@ not_at_end p q = ne_eqb _ _ (λ e. q (p ∙ e))
 pub spells_raw : (e : Env) (i k : ℕ) → (kind_at e i ≡ EOF → ⊥) → kind_at e i ≡ k → spells e i k 1 ≡ true
 unfolding spells
 spells_raw e i k n h = or_left _ _ (and_from true (not (eqb (kind_at e i) EOF) && eqb (kind_at e i) k) refl (and_from _ _ (not_from_false _ (ne_eqb _ _ n)) (eq-eqb _ _ h)))
+
+-- From what a call answers of the next token to what the call that takes it asks: `at` and `bump`, `at_contextual_kw` and `bump_remap`.
+
+pub readable_as : (e : Env) (i k : ℕ) → (kind_at e i ≡ EOF → ⊥) → (k ≡ EOF → ⊥) → eqb (contextual_at e i) k ≡ true → readable e i k ≡ true
+readable_as e i k n m h = and_from _ _ (not_from_false _ (ne_eqb _ _ n)) (and_from _ _ (not_from_false _ (ne_eqb _ _ m)) h)
+
+pub readable_is : (e : Env) (i k : ℕ) → (kind_at e i ≡ EOF → ⊥) → (k ≡ EOF → ⊥) → contextual_at e i ≡ k → readable e i k ≡ true
+readable_is e i k n m h = readable_as e i k n m (eq-eqb _ _ h)
+
+pub other_keyword : (e : Env) (i k : ℕ) → eqb (contextual_at e i) k ≡ false → readable e i k ≡ false
+other_keyword e i k p = and_right _ _ (and_right (not (eqb k EOF)) _ p)
+
+pub present_is : (e : Env) (i k : ℕ) → (kind_at e i ≡ EOF → ⊥) → ahead e i k ≡ true → present e i k ≡ true
+present_is e i k n h = and_from _ _ (not_from_false _ (ne_eqb _ _ n)) h
+
+-- the first raw token that a token is made of
+abbrev pub first : RawTokens → ℕ
+first (One a) = a
+first (Two a b) = a
+first (Three a b c) = a
+
+first_ahead : (e : Env) (i : ℕ) (r : RawTokens) → raw_ahead e i r ≡ true → kind_at e i ≡ first r
+unfolding raw_ahead
+first_ahead e i (One a) h = eqb-true _ _ h
+first_ahead e i (Two a b) h = eqb-true _ _ (and_parts (eqb (kind_at e i) a) _ h).0
+first_ahead e i (Three a b c) h = eqb-true _ _ (and_parts (eqb (kind_at e i) a) _ h).0
+
+-- a token that is made of others than the end is not there at the end
+pub ahead_present : (e : Env) (i k : ℕ) → (first (parts k) ≡ EOF → ⊥) → ahead e i k ≡ true → present e i k ≡ true
+ahead_present e i k n h = present_is e i k (λ z. n (sym (first_ahead e i (parts k) h) ∙ z)) h
 
 -- what can be read as a keyword is there
 pub readable_there : (e : Env) (i k : ℕ) → readable e i k ≡ true → eqb (kind_at e i) EOF ≡ false

@@ -1,5 +1,7 @@
 -- bracket runs
 pub mod Runs
+-- lawful answers
+pub mod Lawful
 -- the hosts are lawful
 pub mod HostLaws
 -- filling rows

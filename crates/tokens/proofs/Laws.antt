@@ -6,7 +6,7 @@ use Rattle.tokens.specs.declared.rows.Hook.{Hook}
 use Rattle.tokens.specs.declared.rows.Answer.{Answer}
 use Rattle.tokens.specs.declared.rows.Row.{Row}
 use Rattle.tokens.specs.Kinds.{EOF, ABI}
-use Rattle.tokens.specs.Islands.{answer_of, must_take, lawful_answer, lawful_row, every_below, row_at, rows_fit}
+use Rattle.tokens.specs.Islands.{answer_of, must_take, lawful_answer, exists_from, lawful_row, every_below, row_at, rows_fit}
 
 -- a test that each number below n passes
 pub every_below_at : (p : ℕ → Bool) (n i : ℕ) → every_below p n ≡ true → i < n → p i ≡ true
@@ -41,3 +41,7 @@ kind_of_node kinds i h a k l e = grind (arith, nat_tests)
 pub takes_some : (kinds : List ℕ) (i : ℕ) (h : Hook) (a : Answer) → lawful_answer kinds i h a ≡ true → must_take h (get_or kinds i EOF) ≡ true → 0 < a.tokens
 unfolding lawful_answer
 takes_some kinds i h a l m = grind (arith, nat_tests)
+
+pub tokens_exist : (kinds : List ℕ) (i : ℕ) (h : Hook) (a : Answer) → lawful_answer kinds i h a ≡ true → exists_from kinds i a.tokens ≡ true
+unfolding lawful_answer
+tokens_exist kinds i h a l = (and_parts (exists_from kinds i a.tokens) _ l).0
