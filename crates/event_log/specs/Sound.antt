@@ -1,4 +1,4 @@
--- What always holds of a parser, by its fields.
+-- What always holds of a log and of a parser, by their fields.
 use Rattle.std.specs.Prelude.{◌≡◌, ℕ, ◌≤◌, Bool, true, false, not, ◌&&◌, List, [], ◌∷◌, length, drop, is_some, ◌==◌}
 use Rattle.event_log.specs.declared.event.Record.{Record}
 use Rattle.event_log.specs.declared.event.Record.TheVariants.{Start, Finish, Token, Error}

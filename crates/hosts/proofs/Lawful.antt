@@ -1,4 +1,4 @@
--- Lawful answers, for hosts: a node of some tokens, a fault alone, a run. The two hosts here are shown lawful without them, by cases.
+-- Lawful answers, for hosts: a node of some tokens, a fault alone, a run. The two hosts here are shown lawful by cases, and take `lawful_ahead` alone from here.
 use Rattle.std.proofs.Common.{◌≡◌, ℕ, ◌<◌, ◌≤◌, Bool, true, false, eqb, List, [], ◌∷◌, length, get_or, drop, Some, None, add-zero, arith}
 use native.Mathlib.Nat.{sub-zero}
 use Rattle.std.proofs.lemmas.List.{length-drop, get_or-drop}
