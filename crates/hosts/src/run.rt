@@ -62,8 +62,8 @@ fn closes_bracket(kind: SyntaxKind) -> bool
 fn is_mark(kind: SyntaxKind) -> bool
     ensures { result ≡ is_mark kind }
 {
-    // By `==`: a `matches!` of these four makes a run over half again as slow, since every token of it is asked.
-    kind == COMMA || kind == SEMICOLON || kind == EQ || kind == COLON
+    // No `matches!`: of these four it makes a run over half again as slow, since every token of it is asked.
+    [COMMA, SEMICOLON, EQ, COLON].contains(&kind)
 }
 
 /// A token of this kind ends a run, outside brackets.
